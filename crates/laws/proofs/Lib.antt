@@ -1,0 +1,5 @@
+pub mod Paste
+pub mod Settled
+pub mod Tabulate
+pub mod Test
+pub mod Xor
