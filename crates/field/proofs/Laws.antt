@@ -8,7 +8,7 @@ use native.Mathlib.Omega.{arith}
 use lib.Dec.{lit<}
 use Rattle.laws.specs.Xor.{_xor_}
 use Rattle.laws.proofs.Test.{agree}
-use Rattle.laws.proofs.Xor.{bit-cases, bit-times-xor, xor-below, xor-byte, xor-double, xor-high, xor-low, xor-medial, xor-zero, zero-xor}
+use Rattle.laws.proofs.Xor.{bit-cases, bit-times-xor, xor-below, xor-byte, xor-double, xor-high, xor-low, xor-medial, xor-zero, zero-xor, sums}
 use Rattle.field.specs.Field.{bit, reduce, xtime, mul, mulBits, square, power, inverse}
 use Rattle.field.specs.Sbox.{fromBits, affineBit, affine, invAffineBit, invAffine, sbox, invSbox}
 
@@ -99,6 +99,10 @@ times-13 a = simp (one-mul, zero-mul, xor-zero, zero-xor)
 pub times-14 : (a : ℕ) → mul 14 a ≡ xtime a xor (xtime (xtime a) xor xtime (xtime (xtime a)))
 unfolding mul mulBits
 times-14 a = simp (one-mul, zero-mul, xor-zero, zero-xor)
+
+-- brings products by those coefficients, doublings and sums of them into one order
+pub ruleset linear = (
+    mul-xor, times-1, times-2, times-3, times-9, times-11, times-13, times-14, xtime-xor, sums)
 
 -- ---- the inverse: of every byte but 0; and taken twice
 inverse-after : (k : ℕ) → k < 255 → mul (suc k) (inverse (suc k)) ≡ 1

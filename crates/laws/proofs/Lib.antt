@@ -1,3 +1,4 @@
+pub mod Each
 pub mod Paste
 pub mod Settled
 pub mod Tabulate

@@ -1,4 +1,4 @@
--- The laws of the exclusive or. Sums of several are regrouped by `simp regroup`, cancelled by `simp (regroup, ..)`.
+-- The laws of the exclusive or. `simp sums` brings a sum of many into one order, with all that stands in it twice gone.
 -- Assumes nothing.
 use mathlib.Core.Path.{_≡_, refl, sym, ap, ap₂, _∙_}
 use Prim.Native.Nat.{ℕ, zero, suc, _+_, _*_, _/_, _%_, _^_, _<_}
@@ -69,6 +69,8 @@ xor-again a b = sym (xor-associative a a b) ∙ ap (λ (x : ℕ). x xor b) (xor-
 
 pub xor-cancels : (a b : ℕ) → a xor b xor b ≡ a
 xor-cancels a b = xor-associative a b b ∙ ap (_xor_ a) (xor-same b) ∙ xor-zero a
+
+pub ruleset sums = (xor-associative, xor-commutes, xor-left, xor-same, xor-again, xor-zero, zero-xor)
 
 -- ---- bits: of k bits, shifted by k bits, the lowest k bits
 pub xor-below : (k a b : ℕ) → a < 2 ^ k → b < 2 ^ k → a xor b < 2 ^ k

@@ -1,0 +1,79 @@
+-- The two mixings of a column: each undoes the other, and how the engine computes them. All are sums of doublings.
+-- Assumes nothing.
+use mathlib.Core.Path.{_≡_, ap, _∙_}
+use mathlib.Core.List.{List, [], _∷_}
+use Prim.Native.Nat.{ℕ, _<_}
+use lib.Dec.{lit<}
+use Rattle.laws.specs.Xor.{_xor_}
+use Rattle.laws.proofs.Each.{each-four}
+use Rattle.laws.proofs.Xor.{sums, xor-byte}
+use Rattle.field.specs.Field.{xtime, mul}
+use Rattle.field.proofs.Laws.{linear, mul-byte}
+use Rattle.aes.specs.State.{byte, Bytes}
+use Rattle.aes.specs.Steps.{matrix, mixColumn, invMixColumn}
+
+-- a mixing of the column that a list of four bytes is
+abbrev pub onColumn : (ℕ → ℕ → ℕ → ℕ → List ℕ) → List ℕ → List ℕ
+onColumn f l = f (byte l 0) (byte l 1) (byte l 2) (byte l 3)
+
+-- the first row of a matrix times a column, and each other row the first on the column turned
+row : ℕ → ℕ → ℕ → ℕ → ℕ → ℕ → ℕ → ℕ → ℕ
+row a0 a1 a2 a3 b0 b1 b2 b3 = mul a0 b0 xor mul a3 b1 xor mul a2 b2 xor mul a1 b3
+
+rows : (a0 a1 a2 a3 a b c d : ℕ)
+    → matrix a0 a1 a2 a3 a b c d
+    ≡ row a0 a1 a2 a3 a b c d ∷ row a0 a1 a2 a3 b c d a ∷ row a0 a1 a2 a3 c d a b ∷ row a0 a1 a2 a3 d a b c ∷ []
+unfolding matrix row
+rows a0 a1 a2 a3 a b c d = simp sums
+
+-- a matrix after another, where the first byte comes back
+module _ (n0 n1 n2 n3 m0 m1 m2 m3 : ℕ)
+    (first : (a b c d : ℕ)
+    → row n0 n1 n2 n3 (row m0 m1 m2 m3 a b c d) (row m0 m1 m2 m3 b c d a) (row m0 m1 m2 m3 c d a b) (row m0 m1 m2 m3 d a b c) ≡ a) where
+  column-back : (a b c d : ℕ) → onColumn (matrix n0 n1 n2 n3) (matrix m0 m1 m2 m3 a b c d) ≡ a ∷ b ∷ c ∷ d ∷ []
+  column-back a b c d =
+      ap (onColumn (matrix n0 n1 n2 n3)) (rows m0 m1 m2 m3 a b c d)
+      ∙ rows n0 n1 n2 n3 (row m0 m1 m2 m3 a b c d) (row m0 m1 m2 m3 b c d a) (row m0 m1 m2 m3 c d a b) (row m0 m1 m2 m3 d a b c)
+      ∙ (λ i. first a b c d i ∷ first b c d a i ∷ first c d a b i ∷ first d a b c i ∷ [])
+
+first-undo : (a b c d : ℕ)
+    → row 0x0e 0x09 0x0d 0x0b (row 0x02 0x01 0x01 0x03 a b c d) (row 0x02 0x01 0x01 0x03 b c d a) (row 0x02 0x01 0x01 0x03 c d a b) (row 0x02 0x01 0x01 0x03 d a b c)
+    ≡ a
+unfolding row
+first-undo a b c d = simp linear
+
+first-redo : (a b c d : ℕ)
+    → row 0x02 0x01 0x01 0x03 (row 0x0e 0x09 0x0d 0x0b a b c d) (row 0x0e 0x09 0x0d 0x0b b c d a) (row 0x0e 0x09 0x0d 0x0b c d a b) (row 0x0e 0x09 0x0d 0x0b d a b c)
+    ≡ a
+unfolding row
+first-redo a b c d = simp linear
+
+pub column-undo : (a b c d : ℕ) → onColumn invMixColumn (mixColumn a b c d) ≡ a ∷ b ∷ c ∷ d ∷ []
+column-undo = column-back 0x0e 0x09 0x0d 0x0b 0x02 0x01 0x01 0x03 first-undo
+
+pub column-redo : (a b c d : ℕ) → onColumn mixColumn (invMixColumn a b c d) ≡ a ∷ b ∷ c ∷ d ∷ []
+column-redo = column-back 0x02 0x01 0x01 0x03 0x0e 0x09 0x0d 0x0b first-redo
+
+pub matrix-bytes : (a0 a1 a2 a3 b0 b1 b2 b3 : ℕ) → b0 < 256 → b1 < 256 → b2 < 256 → b3 < 256 → Bytes (matrix a0 a1 a2 a3 b0 b1 b2 b3)
+unfolding matrix
+matrix-bytes a0 a1 a2 a3 b0 b1 b2 b3 h0 h1 h2 h3 =
+    each-four (λ (x : ℕ). x < 256) (lit< tt) _ _ _ _ (row a0 a3 a2 a1) (row a1 a0 a3 a2) (row a2 a1 a0 a3) (row a3 a2 a1 a0)
+  where
+    row : (p q r t : ℕ) → mul p b0 xor mul q b1 xor mul r b2 xor mul t b3 < 256
+    row p q r t = xor-byte _ _ (xor-byte _ _ (xor-byte _ _ (mul-byte p b0 h0) (mul-byte q b1 h1)) (mul-byte r b2 h2)) (mul-byte t b3 h3)
+
+-- ---- what the engine computes: with the sum of the whole column, a doubling for each byte; and on the way back with
+-- ab, bc and cd for the doubles of the sums of neighbours, and with the doubles of their sums in turn, 4 (a + c) and 4 (b + d)
+pub mixed : (a b c d all : ℕ) → all ≡ a xor b xor c xor d
+    → (a xor xtime (a xor b) xor all) ∷ (b xor xtime (b xor c) xor all) ∷ (c xor xtime (c xor d) xor all) ∷ (d xor xtime (d xor a) xor all) ∷ []
+    ≡ mixColumn a b c d
+unfolding matrix
+mixed a b c d all e = rw e (simp linear)
+
+pub inv-mixed : (a b c d ab bc cd ac bd all : ℕ)
+    → ab ≡ xtime (a xor b) → bc ≡ xtime (b xor c) → cd ≡ xtime (c xor d) → ac ≡ xtime (ab xor bc) → bd ≡ xtime (bc xor cd)
+    → all ≡ a xor b xor c xor d xor xtime (ac xor bd)
+    → (a xor ab xor ac xor all) ∷ (b xor bc xor bd xor all) ∷ (c xor cd xor ac xor all) ∷ (d xor (ab xor bc xor cd) xor bd xor all) ∷ []
+    ≡ invMixColumn a b c d
+unfolding matrix
+inv-mixed a b c d ab bc cd ac bd all hab hbc hcd hac hbd hall = rw (hall, hac, hbd, hab, hbc, hcd) (simp linear)

@@ -1,0 +1,4 @@
+pub mod Columns
+pub mod RoundTrip
+pub mod Schedule
+pub mod Steps

@@ -1,0 +1,4 @@
+pub mod Cipher
+pub mod Schedule
+pub mod State
+pub mod Steps
