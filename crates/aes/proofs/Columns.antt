@@ -62,13 +62,13 @@ matrix-bytes a0 a1 a2 a3 b0 b1 b2 b3 h0 h1 h2 h3 =
     row : (p q r t : ℕ) → mul p b0 xor mul q b1 xor mul r b2 xor mul t b3 < 256
     row p q r t = xor-byte _ _ (xor-byte _ _ (xor-byte _ _ (mul-byte p b0 h0) (mul-byte q b1 h1)) (mul-byte r b2 h2)) (mul-byte t b3 h3)
 
--- ---- what the engine computes: with the sum of the whole column, a doubling for each byte; and on the way back with
--- ab, bc and cd for the doubles of the sums of neighbours, and with the doubles of their sums in turn, 4 (a + c) and 4 (b + d)
-pub mixed : (a b c d all : ℕ) → all ≡ a xor b xor c xor d
-    → (a xor xtime (a xor b) xor all) ∷ (b xor xtime (b xor c) xor all) ∷ (c xor xtime (c xor d) xor all) ∷ (d xor xtime (d xor a) xor all) ∷ []
-    ≡ mixColumn a b c d
+-- ---- what the engine computes, with ab for the double of a + b, and so on; `all` for the sum of the column, on the way back
+-- with 8 of it, which is twice 4 (a + c) + 4 (b + d)
+pub mixed : (a b c d ab bc cd da all : ℕ)
+    → ab ≡ xtime (a xor b) → bc ≡ xtime (b xor c) → cd ≡ xtime (c xor d) → da ≡ xtime (d xor a) → all ≡ a xor b xor c xor d
+    → (a xor ab xor all) ∷ (b xor bc xor all) ∷ (c xor cd xor all) ∷ (d xor da xor all) ∷ [] ≡ mixColumn a b c d
 unfolding matrix
-mixed a b c d all e = rw e (simp linear)
+mixed a b c d ab bc cd da all hab hbc hcd hda hall = rw (hall, hab, hbc, hcd, hda) (simp linear)
 
 pub inv-mixed : (a b c d ab bc cd ac bd all : ℕ)
     → ab ≡ xtime (a xor b) → bc ≡ xtime (b xor c) → cd ≡ xtime (c xor d) → ac ≡ xtime (ab xor bc) → bd ≡ xtime (bc xor cd)

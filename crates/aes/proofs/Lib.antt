@@ -1,4 +1,5 @@
 pub mod Columns
 pub mod RoundTrip
+pub mod Rounds
 pub mod Schedule
 pub mod Steps

@@ -12,7 +12,7 @@ use Rattle.laws.proofs.Xor.{xor-byte, xor-cancels}
 use Rattle.field.specs.Sbox.{sbox, invSbox}
 use Rattle.field.proofs.Laws.{sbox-byte, inv-sbox-byte, sbox-undo, sbox-redo}
 use Rattle.aes.specs.State.{byte, state, Bytes, Block}
-use Rattle.aes.specs.Steps.{substitute, subBytes, invSubBytes, shiftRows, invShiftRows, matrix, columns, mixColumn, invMixColumn, mixColumns, invMixColumns, addRoundKey}
+use Rattle.aes.specs.Steps.{substitute, subBytes, invSubBytes, moveRows, shiftRows, invShiftRows, matrix, columns, mixColumn, invMixColumn, mixColumns, invMixColumns, addRoundKey}
 use Rattle.aes.proofs.Columns.{onColumn, column-undo, column-redo, matrix-bytes}
 
 -- f keeps blocks blocks, and g undoes it
@@ -28,8 +28,8 @@ pub record Inverses (f g : List ℕ → List ℕ) : Type 0 where
 after : {f g f′ g′ : List ℕ → List ℕ} → Undone f g → Undone f′ g′ → Undone (λ s. f′ (f s)) (λ s. g (g′ s))
 after {f} {g} u v =
     record {
-        keeps = λ s h. v .keeps (f s) (u .keeps s h);
-        undo = λ s h. ap g (v .undo (f s) (u .keeps s h)) ∙ u .undo s h
+      keeps = λ s h. v .keeps (f s) (u .keeps s h);
+      undo = λ s h. ap g (v .undo (f s) (u .keeps s h)) ∙ u .undo s h;
     }
 
 -- a step after a step is undone from the last to the first
@@ -40,19 +40,15 @@ state-block : (f : ℕ → ℕ) → ((k : ℕ) → f k < 256) → Block (state f
 state-block f h = record { long = length-tabulate 16 f; small = all-tabulate (λ (x : ℕ). x < 256) 16 f (lit< tt) (λ k l. h k) }
 
 -- ---- SubBytes and InvSubBytes: a substitution is undone where it is undone on bytes
-pub substitute-same : (f g : ℕ → ℕ) (s : List ℕ) → Bytes s → ((b : ℕ) → b < 256 → f b ≡ g b) → substitute f s ≡ substitute g s
-unfolding substitute
-substitute-same f g s h e = tabulate-same 16 (λ i. f (byte s i)) (λ i. g (byte s i)) (λ k l. e (byte s k) (h k))
-
 substituted : (f g : ℕ → ℕ) → ((b : ℕ) → f b < 256) → ((b : ℕ) → b < 256 → g (f b) ≡ b) → Undone (substitute f) (substitute g)
 unfolding substitute
 substituted f g byte-f undo-f =
     record {
-        keeps = λ s h. state-block (λ i. f (byte s i)) (λ k. byte-f (byte s k));
-        undo = λ s h.
-            tabulate-same 16 (λ i. g (byte (state (λ i. f (byte s i))) i)) (byte s)
-            (λ k l. ap g (getD-tabulate 16 (λ i. f (byte s i)) k l) ∙ undo-f (byte s k) (h .small k))
-            ∙ tabulate-own 16 s (h .long)
+      keeps = λ s h. state-block (λ i. f (byte s i)) (λ k. byte-f (byte s k));
+      undo = λ s h.
+          tabulate-same 16 (λ i. g (byte (state (λ i. f (byte s i))) i)) (byte s)
+          (λ k l. ap g (getD-tabulate 16 (λ i. f (byte s i)) k l) ∙ undo-f (byte s k) (h .small k))
+          ∙ tabulate-own 16 s (h .long);
     }
 
 pub sub-inverses : Inverses subBytes invSubBytes
@@ -60,15 +56,16 @@ unfolding subBytes invSubBytes
 sub-inverses = record { there = substituted sbox invSbox sbox-byte sbox-undo; back = substituted invSbox sbox inv-sbox-byte sbox-redo }
 
 -- ---- ShiftRows and InvShiftRows: at the sixteen places there and back is the same byte
-moved : (from : ℕ → ℕ) (s : List ℕ) → Block s → Block (state (λ i. byte s (from i)))
-moved from s h = state-block (λ i. byte s (from i)) (λ k. h .small (from k))
+moved : (n : ℕ) (s : List ℕ) → Block s → Block (moveRows n s)
+unfolding moveRows
+moved n s h = state-block (λ i. byte s ((i + 4 * n * (i % 4)) % 16)) (λ k. h .small ((k + 4 * n * (k % 4)) % 16))
 
 pub shift-inverses : Inverses shiftRows invShiftRows
-unfolding shiftRows invShiftRows tabulate
+unfolding shiftRows invShiftRows moveRows tabulate
 shift-inverses =
     record {
-        there = record { keeps = moved (λ i. (i + 4 * (i % 4)) % 16); undo = λ s h. tabulate-own 16 s (h .long) };
-        back = record { keeps = moved (λ i. (i + 12 * (i % 4)) % 16); undo = λ s h. tabulate-own 16 s (h .long) }
+      there = record { keeps = moved 1; undo = λ s h. tabulate-own 16 s (h .long) };
+      back = record { keeps = moved 3; undo = λ s h. tabulate-own 16 s (h .long) };
     }
 
 -- ---- MixColumns and InvMixColumns: column by column
@@ -89,22 +86,22 @@ columns-undone : (m0 m1 m2 m3 n0 n1 n2 n3 : ℕ)
 unfolding columns matrix tabulate
 columns-undone m0 m1 m2 m3 n0 n1 n2 n3 undo-column =
     record {
-        keeps = λ s h. record { long = refl; small = columns-bytes (matrix m0 m1 m2 m3) (matrix-bytes m0 m1 m2 m3) s (h .small) };
-        undo = λ s h.
-            (λ i.
-            undo-column (byte s 0) (byte s 1) (byte s 2) (byte s 3) i
-            ++ undo-column (byte s 4) (byte s 5) (byte s 6) (byte s 7) i
-            ++ undo-column (byte s 8) (byte s 9) (byte s 10) (byte s 11) i
-            ++ undo-column (byte s 12) (byte s 13) (byte s 14) (byte s 15) i)
-            ∙ tabulate-own 16 s (h .long)
+      keeps = λ s h. record { long = refl; small = columns-bytes (matrix m0 m1 m2 m3) (matrix-bytes m0 m1 m2 m3) s (h .small) };
+      undo = λ s h.
+          (λ i.
+          undo-column (byte s 0) (byte s 1) (byte s 2) (byte s 3) i
+          ++ undo-column (byte s 4) (byte s 5) (byte s 6) (byte s 7) i
+          ++ undo-column (byte s 8) (byte s 9) (byte s 10) (byte s 11) i
+          ++ undo-column (byte s 12) (byte s 13) (byte s 14) (byte s 15) i)
+          ∙ tabulate-own 16 s (h .long);
     }
 
 pub mix-inverses : Inverses mixColumns invMixColumns
 unfolding mixColumns invMixColumns
 mix-inverses =
     record {
-        there = columns-undone 0x02 0x01 0x01 0x03 0x0e 0x09 0x0d 0x0b column-undo;
-        back = columns-undone 0x0e 0x09 0x0d 0x0b 0x02 0x01 0x01 0x03 column-redo
+      there = columns-undone 0x02 0x01 0x01 0x03 0x0e 0x09 0x0d 0x0b column-undo;
+      back = columns-undone 0x0e 0x09 0x0d 0x0b 0x02 0x01 0x01 0x03 column-redo;
     }
 
 -- ---- AddRoundKey undoes itself
@@ -118,9 +115,9 @@ add-inverses w hw r = record { there = twice; back = twice }
     twice : Undone (addRoundKey w r) (addRoundKey w r)
     twice =
         record {
-            keeps = λ s h. state-block (added s) (λ k. xor-byte (byte s k) (byte w (16 * r + k)) (h .small k) (hw (16 * r + k)));
-            undo = λ s h.
-                tabulate-same 16 (added (state (added s))) (byte s)
-                (λ k l. ap (λ (x : ℕ). x xor byte w (16 * r + k)) (getD-tabulate 16 (added s) k l) ∙ xor-cancels (byte s k) (byte w (16 * r + k)))
-                ∙ tabulate-own 16 s (h .long)
+          keeps = λ s h. state-block (added s) (λ k. xor-byte (byte s k) (byte w (16 * r + k)) (h .small k) (hw (16 * r + k)));
+          undo = λ s h.
+              tabulate-same 16 (added (state (added s))) (byte s)
+              (λ k l. ap (λ (x : ℕ). x xor byte w (16 * r + k)) (getD-tabulate 16 (added s) k l) ∙ xor-cancels (byte s k) (byte w (16 * r + k)))
+              ∙ tabulate-own 16 s (h .long);
         }

@@ -18,13 +18,18 @@ subBytes s = substitute sbox s
 unfoldable pub invSubBytes : List ℕ → List ℕ
 invSubBytes s = substitute invSbox s
 
--- 5.1.2 and 5.3.1: row r goes r columns to the left, s'_(r,c) = s_(r,c+r); and to the right, s'_(r,c) = s_(r,c-r).
--- The byte at i is of row i mod 4; a column is 4 bytes, and all columns are 16
-unfoldable pub shiftRows : List ℕ → List ℕ
-shiftRows s = state (λ i. byte s ((i + 4 * (i % 4)) % 16))
+-- the rows moved: the byte at i, of row i mod 4, comes from as many columns to its right as its row's number times `columns`.
+-- A column is 4 bytes, and all four are 16
+unfoldable pub moveRows : ℕ → List ℕ → List ℕ
+moveRows columns s = state (λ i. byte s ((i + 4 * columns * (i % 4)) % 16))
 
+-- 5.1.2: s'_(r,c) = s_(r,c+r), row r moves r columns to the left
+unfoldable pub shiftRows : List ℕ → List ℕ
+shiftRows s = moveRows 1 s
+
+-- 5.3.1: s'_(r,c) = s_(r,c-r), which is s_(r,c+3r)
 unfoldable pub invShiftRows : List ℕ → List ℕ
-invShiftRows s = state (λ i. byte s ((i + 12 * (i % 4)) % 16))
+invShiftRows s = moveRows 3 s
 
 -- 4.3: the matrix of the word a0 a1 a2 a3, times the column b0 b1 b2 b3
 unfoldable pub matrix : ℕ → ℕ → ℕ → ℕ → ℕ → ℕ → ℕ → ℕ → List ℕ

@@ -2,15 +2,18 @@
 -- What is a fact about 256 bytes is computed, once for each.
 -- Assumes nothing.
 use mathlib.Core.Path.{_≡_, refl, sym, ap, ap₂, _∙_, subst}
+use mathlib.Core.List.{List}
 use Prim.Native.Nat.{ℕ, zero, suc, _+_, _*_, _/_, _%_, _^_, _<_}
 use native.Mathlib.Nat.{zero-mul, one-mul, mod-lt}
 use native.Mathlib.Omega.{arith}
 use lib.Dec.{lit<}
+use lib.ListN.{getD}
 use Rattle.laws.specs.Xor.{_xor_}
+use Rattle.laws.proofs.Tabulate.{getD-tabulate}
 use Rattle.laws.proofs.Test.{agree}
 use Rattle.laws.proofs.Xor.{bit-cases, bit-times-xor, xor-below, xor-byte, xor-double, xor-high, xor-low, xor-medial, xor-zero, zero-xor, sums}
 use Rattle.field.specs.Field.{bit, reduce, xtime, mul, mulBits, square, power, inverse}
-use Rattle.field.specs.Sbox.{fromBits, affineBit, affine, invAffineBit, invAffine, sbox, invSbox}
+use Rattle.field.specs.Sbox.{fromBits, affineBit, affine, invAffineBit, invAffine, sbox, invSbox, table}
 
 -- ---- doubling
 
@@ -102,7 +105,17 @@ times-14 a = simp (one-mul, zero-mul, xor-zero, zero-xor)
 
 -- brings products by those coefficients, doublings and sums of them into one order
 pub ruleset linear = (
-    mul-xor, times-1, times-2, times-3, times-9, times-11, times-13, times-14, xtime-xor, sums)
+  mul-xor,
+  times-1,
+  times-2,
+  times-3,
+  times-9,
+  times-11,
+  times-13,
+  times-14,
+  xtime-xor,
+  sums,
+)
 
 -- ---- the inverse: of every byte but 0; and taken twice
 inverse-after : (k : ℕ) → k < 255 → mul (suc k) (inverse (suc k)) ≡ 1
@@ -171,3 +184,8 @@ sbox-undo b h = ap inverse (affine-undo (inverse b) (inverse-byte b)) ∙ invers
 pub sbox-redo : (b : ℕ) → b < 256 → sbox (invSbox b) ≡ b
 unfolding sbox invSbox
 sbox-redo b h = ap affine (inverse-twice (invAffine b) (inv-affine-byte b)) ∙ affine-redo b h
+
+-- what is read at a byte from a table that is the rule f's
+pub looked-up : (f : ℕ → ℕ) (t : List ℕ) (b r : ℕ) → t ≡ table f → b < 256 → r ≡ getD t b 0 → r ≡ f b
+unfolding table
+looked-up f t b r whole h e = e ∙ ap (λ (l : List ℕ). getD l b 0) whole ∙ getD-tabulate 256 f b h

@@ -1,12 +1,22 @@
--- What lies at an index of a list into which n elements of another were pasted at `at`.
+-- A loop that pastes into a list, and what then lies at each index.
 -- Assumes nothing.
 use Prim.Native.Nat.{ℕ, _+_, _-_, _≤_, _<_}
 use mathlib.Core.Path.{_≡_, sym, _∙_, ap}
 use mathlib.Core.List.{List, _++_}
+use native.Mathlib.Numerals.{add-one}
 use native.Mathlib.Omega.{arith}
-use lib.ListN.{length, take, drop, getD, List·getD-append}
-use lib.Seq.{paste, length-paste-head, length-take-le, getD-take, getD-drop, getD-append-add}
+use lib.ListN.{length, take, drop, getD, set, List·getD-append}
+use lib.Seq.{paste, paste-suc, length-paste-head, length-take-le, getD-take, getD-drop, getD-append-add}
 
+-- a turn of the loop `w[at + j] = s[j]; j += 1`, and its end
+pub paste-more : (d s w : List ℕ) (at j : ℕ) → at + j < length d → j < length s → w ≡ paste d at s j
+    → set w (at + j) (getD s j 0) ≡ paste d at s (j + 1)
+paste-more d s w at j hd hs inv = rw add-one (ap (λ (l : List ℕ). set l (at + j) (getD s j 0)) inv ∙ paste-suc d at s j 0 hd hs)
+
+pub pasted : (d s w : List ℕ) (at j n : ℕ) → j ≡ n → w ≡ paste d at s j → w ≡ paste d at s n
+pasted d s w at j n e inv = inv ∙ ap (λ (k : ℕ). paste d at s k) e
+
+-- n elements of s pasted at `at`: before them, among them, after them
 module _ (d : List ℕ) (at : ℕ) (s : List ℕ) (n : ℕ) (room : at + n ≤ length d) (enough : n ≤ length s) where
   head-long : length (take at d ++ take n s) ≡ at + n
   head-long = length-paste-head d at s n (omega arith) enough

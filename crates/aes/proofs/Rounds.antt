@@ -1,0 +1,30 @@
+-- A turn of the loops over the rounds, there and back; and the S-box read from a table.
+-- Assumes nothing.
+use mathlib.Core.Path.{_≡_, refl, sym, ap, _∙_}
+use mathlib.Core.List.{List}
+use Prim.Native.Nat.{ℕ, suc, _+_, _-_, _<_}
+use native.Mathlib.Numerals.{add-one}
+use native.Mathlib.Omega.{arith}
+use Rattle.laws.proofs.Tabulate.{tabulate-same}
+use Rattle.field.specs.Sbox.{table}
+use Rattle.field.proofs.Laws.{looked-up}
+use Rattle.aes.specs.State.{byte, state, Bytes}
+use Rattle.aes.specs.Steps.{substitute}
+use Rattle.aes.specs.Cipher.{round, rounds, invRound, invRounds}
+
+-- bytes read from the table of a rule
+pub by-table : (f : ℕ → ℕ) (boxes s : List ℕ) → boxes ≡ table f → Bytes s → state (λ k. byte boxes (byte s k)) ≡ substitute f s
+unfolding substitute
+by-table f boxes s whole h = tabulate-same 16 _ _ (λ k l. looked-up f boxes (byte s k) _ whole (h k) refl)
+
+-- r rounds are done, and one more
+pub one-more : (w s₀ s t : List ℕ) (r : ℕ) → s ≡ rounds r w s₀ → t ≡ round w (r + 1) s → t ≡ rounds (r + 1) w s₀
+unfolding rounds
+one-more w s₀ s t r done e = rw add-one (e ∙ rw (add-one, done))
+
+-- r rounds are left, and one less
+pub one-less : (w s t g : List ℕ) (r : ℕ) → 0 < r → invRounds r w s ≡ g → t ≡ invRound w r s → invRounds (r - 1) w t ≡ g
+unfolding invRounds
+one-less w s t g r h left e =
+    let next : r ≡ suc (r - 1) = omega arith in
+    ap (invRounds (r - 1) w) (e ∙ ap (λ (k : ℕ). invRound w k s) next) ∙ sym (ap (λ (k : ℕ). invRounds k w s) next) ∙ left
