@@ -66,7 +66,7 @@ matrix-bytes a0 a1 a2 a3 b0 b1 b2 b3 h0 h1 h2 h3 =
 -- with 8 of it, which is twice 4 (a + c) + 4 (b + d)
 pub mixed : (a b c d ab bc cd da all : ℕ)
     → ab ≡ xtime (a xor b) → bc ≡ xtime (b xor c) → cd ≡ xtime (c xor d) → da ≡ xtime (d xor a) → all ≡ a xor b xor c xor d
-    → (a xor ab xor all) ∷ (b xor bc xor all) ∷ (c xor cd xor all) ∷ (d xor da xor all) ∷ [] ≡ mixColumn a b c d
+    → (a xor all xor ab) ∷ (b xor all xor bc) ∷ (c xor all xor cd) ∷ (d xor all xor da) ∷ [] ≡ mixColumn a b c d
 unfolding matrix
 mixed a b c d ab bc cd da all hab hbc hcd hda hall = rw (hall, hab, hbc, hcd, hda) (simp linear)
 

@@ -54,16 +54,16 @@ fn add_round_key(w: &[u8; 176], r: usize, s: [u8; 16]) -> [u8; 16]
     t
 }
 
-// A column after MixColumns: 2 a + 3 b + c + d = a + 2 (a + b) + (a + b + c + d), and so for each row.
+// A column after MixColumns: 2 a + 3 b + c + d = a + (a + b + c + d) + 2 (a + b), and so for each row.
 fn mix(a: u8, b: u8, c: u8, d: u8) -> [u8; 4]
     ensures { λ r. ⌜ r ≡ mixColumn a b c d ⌝ }
 {
     let all = a ^ b ^ c ^ d;
     [
-        a ^ field::double(a ^ b) ^ all,
-        b ^ field::double(b ^ c) ^ all,
-        c ^ field::double(c ^ d) ^ all,
-        d ^ field::double(d ^ a) ^ all,
+        a ^ all ^ field::double(a ^ b),
+        b ^ all ^ field::double(b ^ c),
+        c ^ all ^ field::double(c ^ d),
+        d ^ all ^ field::double(d ^ a),
     ]
 }
 
