@@ -16,43 +16,41 @@ use Rattle.aes.specs.Steps.{matrix, mixColumn, invMixColumn}
 abbrev pub onColumn : (ℕ → ℕ → ℕ → ℕ → List ℕ) → List ℕ → List ℕ
 onColumn f l = f (byte l 0) (byte l 1) (byte l 2) (byte l 3)
 
--- the first row of a matrix times a column, and each other row the first on the column turned
-row : ℕ → ℕ → ℕ → ℕ → ℕ → ℕ → ℕ → ℕ → ℕ
-row a0 a1 a2 a3 b0 b1 b2 b3 = mul a0 b0 xor mul a3 b1 xor mul a2 b2 xor mul a1 b3
+-- the first byte of the column that a mixing gives; each other is the first on the column turned
+abbrev first : (ℕ → ℕ → ℕ → ℕ → List ℕ) → ℕ → ℕ → ℕ → ℕ → ℕ
+first f a b c d = byte (f a b c d) 0
 
-rows : (a0 a1 a2 a3 a b c d : ℕ)
-    → matrix a0 a1 a2 a3 a b c d
-    ≡ row a0 a1 a2 a3 a b c d ∷ row a0 a1 a2 a3 b c d a ∷ row a0 a1 a2 a3 c d a b ∷ row a0 a1 a2 a3 d a b c ∷ []
-unfolding matrix row
-rows a0 a1 a2 a3 a b c d = simp sums
+abbrev Turns : (ℕ → ℕ → ℕ → ℕ → List ℕ) → Type 0
+Turns f = (a b c d : ℕ) → f a b c d ≡ first f a b c d ∷ first f b c d a ∷ first f c d a b ∷ first f d a b c ∷ []
 
--- a matrix after another, where the first byte comes back
-module _ (n0 n1 n2 n3 m0 m1 m2 m3 : ℕ)
-    (first : (a b c d : ℕ)
-    → row n0 n1 n2 n3 (row m0 m1 m2 m3 a b c d) (row m0 m1 m2 m3 b c d a) (row m0 m1 m2 m3 c d a b) (row m0 m1 m2 m3 d a b c) ≡ a) where
-  column-back : (a b c d : ℕ) → onColumn (matrix n0 n1 n2 n3) (matrix m0 m1 m2 m3 a b c d) ≡ a ∷ b ∷ c ∷ d ∷ []
-  column-back a b c d =
-      ap (onColumn (matrix n0 n1 n2 n3)) (rows m0 m1 m2 m3 a b c d)
-      ∙ rows n0 n1 n2 n3 (row m0 m1 m2 m3 a b c d) (row m0 m1 m2 m3 b c d a) (row m0 m1 m2 m3 c d a b) (row m0 m1 m2 m3 d a b c)
-      ∙ (λ i. first a b c d i ∷ first b c d a i ∷ first c d a b i ∷ first d a b c i ∷ [])
+matrix-turns : (a0 a1 a2 a3 : ℕ) → Turns (matrix a0 a1 a2 a3)
+unfolding matrix
+matrix-turns a0 a1 a2 a3 a b c d = simp sums
+
+-- so that a mixing undoes another where it brings the first byte back
+column-back : (f g : ℕ → ℕ → ℕ → ℕ → List ℕ) → Turns f → Turns g
+    → ((a b c d : ℕ) → first g (first f a b c d) (first f b c d a) (first f c d a b) (first f d a b c) ≡ a)
+    → (a b c d : ℕ) → onColumn g (f a b c d) ≡ a ∷ b ∷ c ∷ d ∷ []
+column-back f g turns-f turns-g back a b c d =
+    ap (onColumn g) (turns-f a b c d)
+    ∙ turns-g (first f a b c d) (first f b c d a) (first f c d a b) (first f d a b c)
+    ∙ (λ i. back a b c d i ∷ back b c d a i ∷ back c d a b i ∷ back d a b c i ∷ [])
 
 first-undo : (a b c d : ℕ)
-    → row 0x0e 0x09 0x0d 0x0b (row 0x02 0x01 0x01 0x03 a b c d) (row 0x02 0x01 0x01 0x03 b c d a) (row 0x02 0x01 0x01 0x03 c d a b) (row 0x02 0x01 0x01 0x03 d a b c)
-    ≡ a
-unfolding row
+    → first invMixColumn (first mixColumn a b c d) (first mixColumn b c d a) (first mixColumn c d a b) (first mixColumn d a b c) ≡ a
+unfolding matrix
 first-undo a b c d = simp linear
 
 first-redo : (a b c d : ℕ)
-    → row 0x02 0x01 0x01 0x03 (row 0x0e 0x09 0x0d 0x0b a b c d) (row 0x0e 0x09 0x0d 0x0b b c d a) (row 0x0e 0x09 0x0d 0x0b c d a b) (row 0x0e 0x09 0x0d 0x0b d a b c)
-    ≡ a
-unfolding row
+    → first mixColumn (first invMixColumn a b c d) (first invMixColumn b c d a) (first invMixColumn c d a b) (first invMixColumn d a b c) ≡ a
+unfolding matrix
 first-redo a b c d = simp linear
 
 pub column-undo : (a b c d : ℕ) → onColumn invMixColumn (mixColumn a b c d) ≡ a ∷ b ∷ c ∷ d ∷ []
-column-undo = column-back 0x0e 0x09 0x0d 0x0b 0x02 0x01 0x01 0x03 first-undo
+column-undo = column-back mixColumn invMixColumn (matrix-turns _ _ _ _) (matrix-turns _ _ _ _) first-undo
 
 pub column-redo : (a b c d : ℕ) → onColumn mixColumn (invMixColumn a b c d) ≡ a ∷ b ∷ c ∷ d ∷ []
-column-redo = column-back 0x02 0x01 0x01 0x03 0x0e 0x09 0x0d 0x0b first-redo
+column-redo = column-back invMixColumn mixColumn (matrix-turns _ _ _ _) (matrix-turns _ _ _ _) first-redo
 
 pub matrix-bytes : (a0 a1 a2 a3 b0 b1 b2 b3 : ℕ) → b0 < 256 → b1 < 256 → b2 < 256 → b3 < 256 → Bytes (matrix a0 a1 a2 a3 b0 b1 b2 b3)
 unfolding matrix

@@ -100,8 +100,8 @@ pub mix-inverses : Inverses mixColumns invMixColumns
 unfolding mixColumns invMixColumns
 mix-inverses =
     record {
-      there = columns-undone 0x02 0x01 0x01 0x03 0x0e 0x09 0x0d 0x0b column-undo;
-      back = columns-undone 0x0e 0x09 0x0d 0x0b 0x02 0x01 0x01 0x03 column-redo;
+      there = columns-undone _ _ _ _ _ _ _ _ column-undo;
+      back = columns-undone _ _ _ _ _ _ _ _ column-redo;
     }
 
 -- ---- AddRoundKey undoes itself
