@@ -8,7 +8,10 @@ use lib.Dec.{lit<}
 use lib.ListN.{length, take}
 use lib.Seq.{getD-take, paste, length-paste, take-all, take-paste}
 use Rattle.laws.specs.Xor.{_xor_}
+use Rattle.laws.specs.Tabulate.{tabulate}
 use Rattle.laws.proofs.Each.{each-four, each-append}
+use Rattle.laws.proofs.Paste.{paste-within}
+use Rattle.laws.proofs.Tabulate.{tabulate-own}
 use Rattle.laws.proofs.Xor.{xor-byte}
 use Rattle.field.specs.Field.{xtime}
 use Rattle.field.specs.Sbox.{sbox}
@@ -106,6 +109,19 @@ more w x g i long low high e inv =
     ∙ take-paste w (4 * i) x 4 (omega arith) (omega arith)
     ∙ ap (λ (l : List ℕ). take (4 * i) w ++ l) (take-all 4 x (omega arith) ∙ e ∙ sym (made-next w i low)))
     ∙ subst (λ (n : ℕ). moreWords n i (take (4 * i) w) ≡ g) left inv
+
+-- the word that was pasted is the last one now
+pub newest : (w x : List ℕ) (i : ℕ) → length w ≡ 176 → i < 44 → x ≡ nextWord w i → x ≡ word (paste w (4 * i) x 4) (i + 1 - 1)
+unfolding nextWord tabulate
+newest w x i long high e =
+    let four : length x ≡ 4 = ap length e in
+    let at : i + 1 - 1 ≡ i = omega arith in
+    let start : 4 * i + 0 ≡ 4 * i = omega arith in
+    let pasted = paste-within w (4 * i) x 4 (omega arith) (omega arith) in
+    let zeroth : byte (paste w (4 * i) x 4) (4 * i) ≡ byte x 0 = sym (ap (byte (paste w (4 * i) x 4)) start) ∙ pasted 0 (omega arith) in
+    sym (tabulate-own 4 x four)
+    ∙ sym (ap (word (paste w (4 * i) x 4)) at
+    ∙ (λ k. zeroth k ∷ pasted 1 (omega arith) k ∷ pasted 2 (omega arith) k ∷ pasted 3 (omega arith) k ∷ []))
 
 pub made : (w g : List ℕ) (i : ℕ) → length w ≡ 176 → i ≡ 44 → moreWords (44 - i) i (take (4 * i) w) ≡ g → w ≡ g
 unfolding moreWords

@@ -3,7 +3,7 @@
 // A key schedule is made once and lent to each block. The S-box is made once a block and lent to each round: making it where
 // it is read would lay all of its 256 bytes on the stack at every lookup.
 ghost use mathlib.Core.Path.{_≡_};
-ghost use Prim.Native.Nat.{ℕ, _+_, _*_, _<_, _≤_};
+ghost use Prim.Native.Nat.{ℕ, _+_, _-_, _*_, _<_, _≤_};
 ghost use lib.ListN.{length, take};
 ghost use lib.Seq.{paste};
 ghost use Rattle.laws.specs.Tabulate.{tabulate};
@@ -176,11 +176,16 @@ fn sub_rotated(boxes: &[u8; 256], a: [u8; 4]) -> [u8; 4]
     ]
 }
 
-fn next_word(boxes: &[u8; 256], constants: &[u8; 10], w: &[u8; 176], i: usize) -> [u8; 4]
-    requires { ⌜ (now boxes ≡ table sbox) × (now constants ≡ tabulate 10 powerOfX) × (4 ≤ i) × (i < 44) ⌝ }
+fn next_word(
+    boxes: &[u8; 256],
+    constants: &[u8; 10],
+    w: &[u8; 176],
+    before: [u8; 4],
+    i: usize,
+) -> [u8; 4]
+    requires { ⌜ (now boxes ≡ table sbox) × (now constants ≡ tabulate 10 powerOfX) × (before ≡ word (now w) (i - 1)) × (4 ≤ i) × (i < 44) ⌝ }
     ensures { λ r. ⌜ r ≡ nextWord (now (w .entry)) i ⌝ }
 {
-    let before = word_at(w, i - 1);
     let first = word_at(w, i - 4);
     if i % 4 != 0 {
         return add_words(first, before);
@@ -220,10 +225,12 @@ pub fn expand_key(key: [u8; 16]) -> [u8; 176]
     let boxes = field::sbox_table();
     let constants = round_constants();
     let mut w = key_first(key);
+    let mut last = word_at(&w, 3);
     let mut i: usize = 4;
     while i < 44 {
-        let next = next_word(&boxes, &constants, &w, i);
+        let next = next_word(&boxes, &constants, &w, last, i);
         put_word(&mut w, i, next);
+        last = next;
         i += 1;
     }
     w

@@ -1,20 +1,20 @@
 -- `aes::expand_key` meets its contract: before each turn the words 0 to i - 1 are made, and the rest of the work makes the schedule.
 -- Assumes nothing.
 use mathlib.Core.List.{List}
-use mathlib.Core.Path.{_≡_, ap, _∙_}
+use mathlib.Core.Path.{_≡_, sym, ap, _∙_}
 use Prim.Native.Nat.{ℕ, _+_, _-_, _*_, _≤_}
 use lib.ListN.{length, take}
 use borrow.Author.Needs.{needs}
-use Rattle.aes.proofs.Schedule.{still-long, more, made}
-use Rattle.aes.specs.Schedule.{moreWords, keyExpansion}
+use Rattle.aes.proofs.Schedule.{still-long, newest, more, made}
+use Rattle.aes.specs.Schedule.{word, moreWords, keyExpansion}
 use Rattle.aes.proofs.expand_key.Statement.{statement}
 use Rattle.aes.proofs.expand_key.Tie as tie
 
 abbrev Inv-loop : tie.InvT-loop
-Inv-loop boxes constants w₀ i₀ w i = (4 ≤ i) × (i ≤ 44) × (length w ≡ 176) × (moreWords (44 - i) i (take (4 * i) w) ≡ moreWords 40 4 (take 16 w₀))
+Inv-loop boxes constants w₀ last₀ i₀ w last i = (4 ≤ i) × (i ≤ 44) × (length w ≡ 176) × (last ≡ word w (i - 1)) × (moreWords (44 - i) i (take (4 * i) w) ≡ moreWords 40 4 (take 16 w₀))
 
 abbrev μ-loop : tie.MeasureT-loop
-μ-loop boxes constants w₀ i₀ w i = 44 - i
+μ-loop boxes constants w₀ last₀ i₀ w last i = 44 - i
 
 sbox-table-requires : tie.Need-sbox-table-requires Inv-loop μ-loop
 sbox-table-requires c κs = search needs
@@ -24,6 +24,9 @@ round-constants-requires c κs = search needs
 
 key-first-requires : tie.Need-key-first-requires Inv-loop μ-loop
 key-first-requires c κs = search needs
+
+word-at-requires : tie.Need-word-at-requires Inv-loop μ-loop
+word-at-requires c κs = search needs
 
 loop-holds : tie.Need-loop-holds Inv-loop μ-loop
 loop-holds c = search needs
@@ -47,14 +50,15 @@ loop-again c = let l = c .before .before .before .before .before .before .before
       search needs,
       search needs,
       ap length pasted ∙ still-long (l .w) (next .result) (l .i) (l .inv .2) (search needs) (next .ensures),
+      newest (l .w) (next .result) (l .i) (l .inv .2) (search needs) (next .ensures) ∙ sym (ap (λ (v : List ℕ). word v (l .i + 1 - 1)) pasted),
       ap (λ (v : List ℕ). moreWords (44 - (l .i + 1)) (l .i + 1) (take (4 * (l .i + 1)) v)) pasted
-          ∙ more (l .w) (next .result) _ (l .i) (l .inv .2) (search needs) (search needs) (next .ensures) (l .inv .3),
+          ∙ more (l .w) (next .result) _ (l .i) (l .inv .2) (search needs) (search needs) (next .ensures) (l .inv .4),
     )
 
 returns : tie.Need-returns Inv-loop μ-loop
 unfolding keyExpansion
 returns c = let l = c .before .loop in
-    made (l .w) _ (l .i) (l .inv .2) (search needs) (l .inv .3) ∙ ap (moreWords 40 4) (c .before .before .key-first .ensures)
+    made (l .w) _ (l .i) (l .inv .2) (search needs) (l .inv .4) ∙ ap (moreWords 40 4) (c .before .before .before .before .key-first .ensures)
 
 pub expand-key-spec : {M : Type 1} → statement M
 expand-key-spec =
@@ -65,6 +69,7 @@ expand-key-spec =
     sbox-table-requires
     round-constants-requires
     key-first-requires
+    word-at-requires
     loop-holds
     next-word-requires
     put-word-requires

@@ -18,19 +18,13 @@ sub-word-at c = search needs
 word-at-requires : tie.Need-word-at-requires
 word-at-requires c κs = search needs
 
-sub-word-at-2 : tie.Need-sub-word-at-2
-sub-word-at-2 c = search needs
-
-word-at-requires-2 : tie.Need-word-at-requires-2
-word-at-requires-2 c κs = search needs
-
 add-words-requires : tie.Need-add-words-requires
 add-words-requires c κs = search needs
 
 returns : tie.Need-returns
-returns c = let start = c .before .before .before .before in
+returns c = let start = c .before .before .before in
     c .add-words .ensures
-    ∙ ap₂ addWord (c .before .before .word-at2 .ensures) (c .before .before .before .word-at .ensures)
+    ∙ ap₂ addWord (c .before .before .word-at .ensures) (start .pre .2)
     ∙ next-plain (start .args .w .now) (start .args .i) (λ e. omega arith)
 
 sub-t10 : tie.Need-sub-t10
@@ -49,13 +43,13 @@ add-words-requires-3 : tie.Need-add-words-requires-3
 add-words-requires-3 c κs = search needs
 
 returns-2 : tie.Need-returns-2
-returns-2 c = let words = c .before .before .before .before .before in
-    let start = words .before .before in
+returns-2 c = let first = c .before .before .before .before .before in
+    let start = first .before in
     let i = start .args .i in
     let constant = ap (λ (t : List ℕ). byte t (i / 4 - 1)) (start .pre .1) ∙ getD-tabulate 10 powerOfX (i / 4 - 1) (omega arith) in
-    let turned = c .before .before .sub-rotated .ensures ∙ ap (λ (t : List ℕ). subWord (rotWord t)) (words .before .word-at .ensures) in
+    let turned = c .before .before .sub-rotated .ensures ∙ ap (λ (t : List ℕ). subWord (rotWord t)) (start .pre .2) in
     c .add-words3 .ensures
-    ∙ ap₂ addWord (words .word-at2 .ensures)
+    ∙ ap₂ addWord (first .word-at .ensures)
     (c .before .add-words2 .ensures ∙ ap₂ addWord turned (ap (λ (n : ℕ). n ∷ 0 ∷ 0 ∷ 0 ∷ []) constant))
     ∙ next-turned (start .args .w .now) i (omega arith)
 
@@ -65,8 +59,6 @@ next-word-spec =
     (tie.spec
     sub-word-at
     word-at-requires
-    sub-word-at-2
-    word-at-requires-2
     add-words-requires
     returns
     sub-t10

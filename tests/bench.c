@@ -1,0 +1,200 @@
+/* Our AES-128 beside BearSSL's and libtomcrypt's, in one run.
+ *
+ * All of them are checked to give the same bytes first. Each figure is the best of ROUNDS rounds, and each round measures
+ * everything once, so that a slow moment of the machine falls on all alike. Blocks are chained, each the input of the next.
+ * BearSSL has no call for one block: its CBC over 64 KiB stands in, which adds an exclusive or of 16 bytes a block. */
+#include <bearssl.h>
+#include <stdint.h>
+#include <stdio.h>
+#include <stdlib.h>
+#include <string.h>
+#include <time.h>
+#include <tomcrypt.h>
+
+enum { BLOCKS = 4096, ROUNDS = 30 };
+
+void bench_schedule(const uint8_t key[16], uint8_t schedule[176]);
+void bench_encrypt(const uint8_t schedule[176], const uint8_t block[16], uint8_t out[16]);
+void bench_decrypt(const uint8_t schedule[176], const uint8_t block[16], uint8_t out[16]);
+void bench_encrypt_keyed(const uint8_t key[16], const uint8_t block[16], uint8_t out[16]);
+
+static uint8_t key[16], iv[16], text[16 * BLOCKS], schedule[176];
+static br_aes_small_cbcenc_keys small_enc;
+static br_aes_small_cbcdec_keys small_dec;
+static br_aes_big_cbcenc_keys big_enc;
+static br_aes_big_cbcdec_keys big_dec;
+static symmetric_key tom;
+
+static void make_keys(void)
+{
+    bench_schedule(key, schedule);
+    br_aes_small_cbcenc_init(&small_enc, key, 16);
+    br_aes_small_cbcdec_init(&small_dec, key, 16);
+    br_aes_big_cbcenc_init(&big_enc, key, 16);
+    br_aes_big_cbcdec_init(&big_dec, key, 16);
+    aes_setup(key, 16, 0, &tom);
+}
+
+/* ---- what is measured: BLOCKS times each */
+
+static void chain(void (*step)(const uint8_t *, const uint8_t *, uint8_t *), const uint8_t *with)
+{
+    uint8_t even[16], odd[16];
+    memcpy(even, text, 16);
+    for (int i = 0; i < BLOCKS; i += 2) {
+        step(with, even, odd);
+        step(with, odd, even);
+    }
+    memcpy(text, even, 16);
+}
+
+static void our_encrypt(void) { chain(bench_encrypt, schedule); }
+static void our_decrypt(void) { chain(bench_decrypt, schedule); }
+static void our_keyed(void) { chain(bench_encrypt_keyed, key); }
+static void our_schedule(void)
+{
+    for (int i = 0; i < BLOCKS; i++) {
+        bench_schedule(key, schedule);
+        memcpy(key, schedule + 160, 16);
+    }
+}
+
+static void small_encrypt(void) { br_aes_small_cbcenc_run(&small_enc, iv, text, sizeof text); }
+static void small_decrypt(void) { br_aes_small_cbcdec_run(&small_dec, iv, text, sizeof text); }
+static void small_schedule(void)
+{
+    for (int i = 0; i < BLOCKS; i++) {
+        br_aes_small_cbcenc_init(&small_enc, key, 16);
+        memcpy(key, (uint8_t *)small_enc.skey + 160, 16);
+    }
+}
+static void small_keyed(void)
+{
+    for (int i = 0; i < BLOCKS; i++) {
+        br_aes_small_cbcenc_init(&small_enc, key, 16);
+        br_aes_small_cbcenc_run(&small_enc, iv, text, 16);
+    }
+}
+
+static void big_encrypt(void) { br_aes_big_cbcenc_run(&big_enc, iv, text, sizeof text); }
+static void big_decrypt(void) { br_aes_big_cbcdec_run(&big_dec, iv, text, sizeof text); }
+static void big_schedule(void)
+{
+    for (int i = 0; i < BLOCKS; i++) {
+        br_aes_big_cbcenc_init(&big_enc, key, 16);
+        memcpy(key, (uint8_t *)big_enc.skey + 160, 16);
+    }
+}
+static void big_keyed(void)
+{
+    for (int i = 0; i < BLOCKS; i++) {
+        br_aes_big_cbcenc_init(&big_enc, key, 16);
+        br_aes_big_cbcenc_run(&big_enc, iv, text, 16);
+    }
+}
+
+static void tom_encrypt(void)
+{
+    for (int i = 0; i < BLOCKS; i++)
+        aes_ecb_encrypt(text, text, &tom);
+}
+static void tom_decrypt(void)
+{
+    for (int i = 0; i < BLOCKS; i++)
+        aes_ecb_decrypt(text, text, &tom);
+}
+static void tom_schedule(void)
+{
+    for (int i = 0; i < BLOCKS; i++) {
+        aes_setup(key, 16, 0, &tom);
+        memcpy(key, tom.rijndael.eK + 40, 16);
+    }
+}
+static void tom_keyed(void)
+{
+    for (int i = 0; i < BLOCKS; i++) {
+        aes_setup(key, 16, 0, &tom);
+        aes_ecb_encrypt(text, text, &tom);
+    }
+}
+
+enum { OURS, SMALL, BIG, TOM, WHO };
+
+static const struct {
+    const char *name;
+    void (*run[WHO])(void);
+} work[] = {
+    {"encrypt a block", {our_encrypt, small_encrypt, big_encrypt, tom_encrypt}},
+    {"decrypt a block", {our_decrypt, small_decrypt, big_decrypt, tom_decrypt}},
+    {"key schedule", {our_schedule, small_schedule, big_schedule, tom_schedule}},
+    {"schedule and encrypt", {our_keyed, small_keyed, big_keyed, tom_keyed}},
+};
+enum { WORK = sizeof work / sizeof work[0] };
+
+/* ---- the same bytes from all */
+
+static void must_agree(const char *what, const uint8_t *a, const uint8_t *b)
+{
+    if (memcmp(a, b, 16) != 0) {
+        fprintf(stderr, "bench: %s: the engines disagree\n", what);
+        exit(1);
+    }
+}
+
+static void check(void)
+{
+    uint8_t block[16], cipher[16], other[16], zero[16];
+    for (int i = 0; i < 1000; i++) {
+        for (int k = 0; k < 16; k++) {
+            key[k] = (uint8_t)rand();
+            block[k] = (uint8_t)rand();
+        }
+        make_keys();
+        bench_encrypt(schedule, block, cipher);
+        memcpy(other, block, 16), memset(zero, 0, 16);
+        br_aes_small_cbcenc_run(&small_enc, zero, other, 16);
+        must_agree("encrypt, aes_small", cipher, other);
+        memcpy(other, block, 16), memset(zero, 0, 16);
+        br_aes_big_cbcenc_run(&big_enc, zero, other, 16);
+        must_agree("encrypt, aes_big", cipher, other);
+        aes_ecb_encrypt(block, other, &tom);
+        must_agree("encrypt, libtomcrypt", cipher, other);
+        bench_encrypt_keyed(key, block, other);
+        must_agree("schedule and encrypt", cipher, other);
+        bench_decrypt(schedule, cipher, other);
+        must_agree("decrypt", block, other);
+        bench_decrypt(schedule, block, other);
+        aes_ecb_decrypt(block, cipher, &tom);
+        must_agree("decrypt, libtomcrypt", cipher, other);
+    }
+}
+
+static double now(void)
+{
+    struct timespec t;
+    clock_gettime(CLOCK_MONOTONIC, &t);
+    return (double)t.tv_sec * 1e9 + (double)t.tv_nsec;
+}
+
+int main(void)
+{
+    double best[WORK][WHO];
+    check();
+    make_keys();
+    for (int round = 0; round < ROUNDS; round++)
+        for (int i = 0; i < WORK; i++)
+            for (int who = 0; who < WHO; who++) {
+                double start = now();
+                work[i].run[who]();
+                double took = (now() - start) / BLOCKS;
+                if (round == 0 || took < best[i][who])
+                    best[i][who] = took;
+            }
+    printf("%-22s %8s %10s %8s %11s   %s\n", "nanoseconds", "ours", "aes_small", "aes_big", "libtomcrypt", "ours / each of them");
+    for (int i = 0; i < WORK; i++) {
+        const double *b = best[i];
+        printf("%-22s %8.1f %10.1f %8.1f %11.1f   %.2f  %.2f  %.2f\n", work[i].name, b[OURS], b[SMALL], b[BIG], b[TOM],
+               b[OURS] / b[SMALL], b[OURS] / b[BIG], b[OURS] / b[TOM]);
+    }
+    return 0;
+}

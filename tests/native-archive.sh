@@ -1,0 +1,45 @@
+#!/bin/sh
+# native-archive.sh CRATE: proves the crate and writes target/native/libCRATE.a, for C programs of this very machine.
+#
+# The kit compiles for x86-64. On another processor its compiler is asked for that one's code instead: by a copy of the kit
+# made of links, in which `clang` is a script that hands the same module to the same compiler without the x86-64 flags.
+# What is proved, and the module that is compiled, are the same; only the last step differs.
+set -eu
+crate=$1
+machine=$(uname -m)
+mkdir -p target/native
+if [ "$machine" = x86_64 ]; then
+    rt staticlib "$crate" >target/native/log 2>&1 || { cat target/native/log; exit 1; }
+    cp "target/staticlib/lib$crate.a" target/native/
+    exit 0
+fi
+kit=$(dirname "$(dirname "$(rt doc)")")
+copy=$(pwd)/target/native/kit
+link_all() { # FROM TO BUT: links to everything of a folder but one name
+    mkdir -p "$2"
+    for item in "$1"/*; do
+        [ "$(basename "$item")" = "$3" ] || ln -sfn "$item" "$2/"
+    done
+}
+link_all "$kit" "$copy" on
+link_all "$kit/on/$machine" "$copy/on/$machine" toolchain
+link_all "$kit/on/$machine/toolchain" "$copy/on/$machine/toolchain" bin
+link_all "$kit/on/$machine/toolchain/bin" "$copy/on/$machine/toolchain/bin" clang
+compiler=$kit/on/$machine/toolchain/bin/clang
+cat >"$copy/on/$machine/toolchain/bin/clang" <<SCRIPT
+#!/bin/sh
+set -eu
+while [ \$# -gt 0 ]; do
+    case \$1 in
+    -o) out=\$2; shift ;;
+    *.bc) module=\$1 ;;
+    esac
+    shift
+done
+"$compiler" --target=x86_64-unknown-linux-gnu -S -emit-llvm -Xclang -disable-llvm-passes -O3 -x ir "\$module" -o "\$module.ll"
+grep -v -e '^target datalayout' -e '^target triple' "\$module.ll" >"\$module.native.ll"
+exec "$compiler" -O3 -fPIC -ffunction-sections -fdata-sections -Wno-override-module -c -x ir "\$module.native.ll" -o "\$out"
+SCRIPT
+chmod +x "$copy/on/$machine/toolchain/bin/clang"
+RATTLE_HOME=$copy rt staticlib "$crate" >target/native/log 2>&1 || { cat target/native/log; exit 1; }
+mv "target/staticlib/lib$crate.a" target/native/
