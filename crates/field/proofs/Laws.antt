@@ -185,7 +185,18 @@ pub sbox-redo : (b : ℕ) → b < 256 → sbox (invSbox b) ≡ b
 unfolding sbox invSbox
 sbox-redo b h = ap affine (inverse-twice (invAffine b) (inv-affine-byte b)) ∙ affine-redo b h
 
--- what is read at a byte from a table that is the rule f's
+-- ---- the tables: what is read at a byte from the table of a rule; and each table undoes the other
 pub looked-up : (f : ℕ → ℕ) (t : List ℕ) (b r : ℕ) → t ≡ table f → b < 256 → r ≡ getD t b 0 → r ≡ f b
 unfolding table
 looked-up f t b r whole h e = e ∙ ap (λ (l : List ℕ). getD l b 0) whole ∙ getD-tabulate 256 f b h
+
+both-ways : (f g : ℕ → ℕ) → ((b : ℕ) → f b < 256) → ((b : ℕ) → b < 256 → g (f b) ≡ b)
+    → (b : ℕ) → b < 256 → getD (table g) (getD (table f) b 0) 0 ≡ b
+both-ways f g byte undo b h =
+    ap (λ (x : ℕ). getD (table g) x 0) (looked-up f (table f) b _ refl h refl) ∙ looked-up g (table g) (f b) _ refl (byte b) refl ∙ undo b h
+
+pub tables-undo : (b : ℕ) → b < 256 → getD (table invSbox) (getD (table sbox) b 0) 0 ≡ b
+tables-undo = both-ways sbox invSbox sbox-byte sbox-undo
+
+pub tables-redo : (b : ℕ) → b < 256 → getD (table sbox) (getD (table invSbox) b 0) 0 ≡ b
+tables-redo = both-ways invSbox sbox inv-sbox-byte sbox-redo
