@@ -59,39 +59,25 @@ static void our_schedule(void)
     }
 }
 
-static void small_encrypt(void) { br_aes_small_cbcenc_run(&small_enc, iv, text, sizeof text); }
-static void small_decrypt(void) { br_aes_small_cbcdec_run(&small_dec, iv, text, sizeof text); }
-static void small_schedule(void)
-{
-    for (int i = 0; i < BLOCKS; i++) {
-        br_aes_small_cbcenc_init(&small_enc, key, 16);
-        memcpy(key, (uint8_t *)small_enc.skey + 160, 16);
+#define BEARSSL(kind)                                                                                     \
+    static void kind##_encrypt(void) { br_aes_##kind##_cbcenc_run(&kind##_enc, iv, text, sizeof text); } \
+    static void kind##_decrypt(void) { br_aes_##kind##_cbcdec_run(&kind##_dec, iv, text, sizeof text); } \
+    static void kind##_schedule(void)                                                                    \
+    {                                                                                                    \
+        for (int i = 0; i < BLOCKS; i++) {                                                               \
+            br_aes_##kind##_cbcenc_init(&kind##_enc, key, 16);                                           \
+            memcpy(key, (uint8_t *)kind##_enc.skey + 160, 16);                                           \
+        }                                                                                                \
+    }                                                                                                    \
+    static void kind##_keyed(void)                                                                       \
+    {                                                                                                    \
+        for (int i = 0; i < BLOCKS; i++) {                                                               \
+            br_aes_##kind##_cbcenc_init(&kind##_enc, key, 16);                                           \
+            br_aes_##kind##_cbcenc_run(&kind##_enc, iv, text, 16);                                       \
+        }                                                                                                \
     }
-}
-static void small_keyed(void)
-{
-    for (int i = 0; i < BLOCKS; i++) {
-        br_aes_small_cbcenc_init(&small_enc, key, 16);
-        br_aes_small_cbcenc_run(&small_enc, iv, text, 16);
-    }
-}
-
-static void big_encrypt(void) { br_aes_big_cbcenc_run(&big_enc, iv, text, sizeof text); }
-static void big_decrypt(void) { br_aes_big_cbcdec_run(&big_dec, iv, text, sizeof text); }
-static void big_schedule(void)
-{
-    for (int i = 0; i < BLOCKS; i++) {
-        br_aes_big_cbcenc_init(&big_enc, key, 16);
-        memcpy(key, (uint8_t *)big_enc.skey + 160, 16);
-    }
-}
-static void big_keyed(void)
-{
-    for (int i = 0; i < BLOCKS; i++) {
-        br_aes_big_cbcenc_init(&big_enc, key, 16);
-        br_aes_big_cbcenc_run(&big_enc, iv, text, 16);
-    }
-}
+BEARSSL(small)
+BEARSSL(big)
 
 static void tom_encrypt(void)
 {

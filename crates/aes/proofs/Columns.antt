@@ -10,7 +10,8 @@ use Rattle.laws.proofs.Xor.{sums, xor-byte}
 use Rattle.field.specs.Field.{xtime, mul}
 use Rattle.field.proofs.Laws.{linear, mul-byte}
 use Rattle.aes.specs.State.{byte, Bytes}
-use Rattle.aes.specs.Steps.{matrix, mixColumn, invMixColumn}
+use Rattle.aes.specs.Engine.{fourColumns}
+use Rattle.aes.specs.Steps.{matrix, columns, mixColumn, invMixColumn}
 
 -- a mixing of the column that a list of four bytes is
 abbrev pub onColumn : (ℕ → ℕ → ℕ → ℕ → List ℕ) → List ℕ → List ℕ
@@ -75,3 +76,13 @@ pub inv-mixed : (a b c d ab bc cd ac bd all : ℕ)
     ≡ invMixColumn a b c d
 unfolding matrix
 inv-mixed a b c d ab bc cd ac bd all hab hbc hcd hac hbd hall = rw (hall, hac, hbd, hab, hbc, hcd) (simp linear)
+
+-- a state of four columns, each of them mixed
+pub joined : (a0 a1 a2 a3 : ℕ) (s t p q r x : List ℕ) → t ≡ fourColumns p q r x
+    → p ≡ matrix a0 a1 a2 a3 (byte s 0) (byte s 1) (byte s 2) (byte s 3)
+    → q ≡ matrix a0 a1 a2 a3 (byte s 4) (byte s 5) (byte s 6) (byte s 7)
+    → r ≡ matrix a0 a1 a2 a3 (byte s 8) (byte s 9) (byte s 10) (byte s 11)
+    → x ≡ matrix a0 a1 a2 a3 (byte s 12) (byte s 13) (byte s 14) (byte s 15)
+    → t ≡ columns (matrix a0 a1 a2 a3) s
+unfolding columns matrix
+joined a0 a1 a2 a3 s t p q r x e hp hq hr hx = e ∙ (λ i. fourColumns (hp i) (hq i) (hr i) (hx i))

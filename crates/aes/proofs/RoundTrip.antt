@@ -4,7 +4,7 @@ use mathlib.Core.Path.{_≡_, refl, ap, _∙_}
 use mathlib.Core.List.{List}
 use Prim.Native.Nat.{ℕ, zero, suc}
 use Rattle.aes.specs.State.{Bytes, Block}
-use Rattle.aes.specs.Steps.{subBytes, invSubBytes, shiftRows, invShiftRows, mixColumns, invMixColumns, addRoundKey}
+use Rattle.aes.specs.Steps.{invSubBytes, invShiftRows, invMixColumns, addRoundKey}
 use Rattle.aes.specs.Schedule.{keyExpansion}
 use Rattle.aes.specs.Cipher.{round, rounds, cipherWith, cipher, invRound, invRounds, invCipherWith, invCipher}
 use Rattle.aes.proofs.Steps.{Undone, Inverses, chain, sub-inverses, shift-inverses, mix-inverses, add-inverses}

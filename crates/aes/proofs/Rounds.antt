@@ -1,4 +1,4 @@
--- A turn of the loops over the rounds, there and back; and the S-box read from a table.
+-- The S-box read from a table, a turn of the loops over the rounds, there and back, and the cipher by its schedule.
 -- Assumes nothing.
 use mathlib.Core.Path.{_≡_, refl, sym, ap, _∙_}
 use mathlib.Core.List.{List}
@@ -10,7 +10,8 @@ use Rattle.field.specs.Sbox.{table}
 use Rattle.field.proofs.Laws.{looked-up}
 use Rattle.aes.specs.State.{byte, state, Bytes}
 use Rattle.aes.specs.Steps.{substitute}
-use Rattle.aes.specs.Cipher.{round, rounds, invRound, invRounds}
+use Rattle.aes.specs.Schedule.{keyExpansion}
+use Rattle.aes.specs.Cipher.{round, rounds, cipherWith, cipher, invRound, invRounds, invCipherWith, invCipher}
 
 -- bytes read from the table of a rule
 pub by-table : (f : ℕ → ℕ) (boxes s : List ℕ) → boxes ≡ table f → Bytes s → state (λ k. byte boxes (byte s k)) ≡ substitute f s
@@ -28,3 +29,12 @@ unfolding invRounds
 one-less w s t g r h left e =
     let next : r ≡ suc (r - 1) = omega arith in
     ap (invRounds (r - 1) w) (e ∙ ap (λ (k : ℕ). invRound w k s) next) ∙ sym (ap (λ (k : ℕ). invRounds k w s) next) ∙ left
+
+-- under the schedule of a key
+pub scheduled : (key w block r : List ℕ) → w ≡ keyExpansion key → r ≡ cipherWith w block → r ≡ cipher key block
+unfolding cipher
+scheduled key w block r made e = e ∙ ap (λ (v : List ℕ). cipherWith v block) made
+
+pub inv-scheduled : (key w block r : List ℕ) → w ≡ keyExpansion key → r ≡ invCipherWith w block → r ≡ invCipher key block
+unfolding invCipher
+inv-scheduled key w block r made e = e ∙ ap (λ (v : List ℕ). invCipherWith v block) made

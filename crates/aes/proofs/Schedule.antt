@@ -13,8 +13,6 @@ use Rattle.laws.proofs.Each.{each-four, each-append}
 use Rattle.laws.proofs.Paste.{paste-within}
 use Rattle.laws.proofs.Tabulate.{tabulate-own}
 use Rattle.laws.proofs.Xor.{xor-byte}
-use Rattle.field.specs.Field.{xtime}
-use Rattle.field.specs.Sbox.{sbox}
 use Rattle.field.proofs.Laws.{xtime-byte, sbox-byte}
 use Rattle.aes.specs.State.{byte, Bytes}
 use Rattle.aes.specs.Schedule.{word, addWord, rotWord, subWord, powerOfX, rcon, temp, nextWord, moreWords, keyExpansion}

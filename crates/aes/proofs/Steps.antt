@@ -12,7 +12,7 @@ use Rattle.laws.proofs.Xor.{xor-byte, xor-cancels}
 use Rattle.field.specs.Sbox.{sbox, invSbox}
 use Rattle.field.proofs.Laws.{sbox-byte, inv-sbox-byte, sbox-undo, sbox-redo}
 use Rattle.aes.specs.State.{byte, state, Bytes, Block}
-use Rattle.aes.specs.Steps.{substitute, subBytes, invSubBytes, moveRows, shiftRows, invShiftRows, matrix, columns, mixColumn, invMixColumn, mixColumns, invMixColumns, addRoundKey}
+use Rattle.aes.specs.Steps.{substitute, subBytes, invSubBytes, moveRows, shiftRows, invShiftRows, matrix, columns, mixColumns, invMixColumns, addRoundKey}
 use Rattle.aes.proofs.Columns.{onColumn, column-undo, column-redo, matrix-bytes}
 
 -- f keeps blocks blocks, and g undoes it

@@ -18,10 +18,10 @@ subBytes s = substitute sbox s
 unfoldable pub invSubBytes : List ℕ → List ℕ
 invSubBytes s = substitute invSbox s
 
--- the rows moved: the byte at i, of row i mod 4, comes from as many columns to its right as its row's number times `columns`.
--- A column is 4 bytes, and all four are 16
+-- the rows moved to the left, row r by n r columns: the byte at i is of row i mod 4, the next column is 4 bytes on, and past
+-- the last column comes the first
 unfoldable pub moveRows : ℕ → List ℕ → List ℕ
-moveRows columns s = state (λ i. byte s ((i + 4 * columns * (i % 4)) % 16))
+moveRows n s = state (λ i. byte s ((i + 4 * n * (i % 4)) % 16))
 
 -- 5.1.2: s'_(r,c) = s_(r,c+r), row r moves r columns to the left
 unfoldable pub shiftRows : List ℕ → List ℕ

@@ -27,15 +27,15 @@ fn sub_bytes(boxes: &[u8; 256], s: [u8; 16]) -> [u8; 16]
     t
 }
 
-// ShiftRows by 1 column a row, InvShiftRows by 3.
-fn move_rows(columns: usize, s: [u8; 16]) -> [u8; 16]
-    requires { ⌜ columns < 4 ⌝ }
-    ensures { λ r. ⌜ r ≡ moveRows columns s ⌝ }
+// Row r moved n r columns to the left: ShiftRows for n = 1, InvShiftRows for n = 3, which is as far as 1 to the right.
+fn move_rows(n: usize, s: [u8; 16]) -> [u8; 16]
+    requires { ⌜ n < 4 ⌝ }
+    ensures { λ r. ⌜ r ≡ moveRows n s ⌝ }
 {
     let mut t = [0u8; 16];
     let mut i: usize = 0;
     while i < 16 {
-        t[i] = s[(i + 4 * columns * (i % 4)) % 16];
+        t[i] = s[(i + 4 * n * (i % 4)) % 16];
         i += 1;
     }
     t

@@ -1,7 +1,7 @@
 -- `aes::decrypt_with` meets its contract: before each turn the rounds r down to 1 are left.
 -- Assumes nothing.
 use mathlib.Core.Path.{_≡_, sym, ap, _∙_}
-use Prim.Native.Nat.{ℕ, _-_, _≤_}
+use Prim.Native.Nat.{ℕ, _≤_}
 use native.Mathlib.Omega.{arith}
 use borrow.Author.Needs.{needs}
 use Rattle.field.specs.Sbox.{invSbox}

@@ -1,9 +1,8 @@
 -- `aes::inv_mix_columns` meets its contract, column by column.
 -- Assumes nothing.
-use mathlib.Core.Path.{_∙_}
 use borrow.Author.Needs.{needs}
-use Rattle.aes.specs.Engine.{fourColumns}
-use Rattle.aes.specs.Steps.{matrix, columns, invMixColumns}
+use Rattle.aes.proofs.Columns.{joined}
+use Rattle.aes.specs.Steps.{invMixColumns}
 use Rattle.aes.proofs.inv_mix_columns.Statement.{statement}
 use Rattle.aes.proofs.inv_mix_columns.Tie as tie
 
@@ -23,11 +22,10 @@ join-requires : tie.Need-join-requires
 join-requires c κs = search needs
 
 returns : tie.Need-returns
-unfolding invMixColumns columns matrix
-returns c = c .join .ensures
-    ∙ (λ i.
-    fourColumns (c .before .before .before .before .inv-mix-at .ensures i) (c .before .before .before .inv-mix-at2 .ensures i)
-    (c .before .before .inv-mix-at3 .ensures i) (c .before .inv-mix-at4 .ensures i))
+unfolding invMixColumns
+returns c = joined _ _ _ _ (c .before .before .before .before .before .args .s) _ _ _ _ _ (c .join .ensures)
+    (c .before .before .before .before .inv-mix-at .ensures) (c .before .before .before .inv-mix-at2 .ensures)
+    (c .before .before .inv-mix-at3 .ensures) (c .before .inv-mix-at4 .ensures)
 
 pub inv-mix-columns-spec : {M : Type 1} → statement M
 inv-mix-columns-spec =

@@ -1,9 +1,8 @@
 -- `aes::mix_columns` meets its contract, column by column.
 -- Assumes nothing.
-use mathlib.Core.Path.{_∙_}
 use borrow.Author.Needs.{needs}
-use Rattle.aes.specs.Engine.{fourColumns}
-use Rattle.aes.specs.Steps.{matrix, columns, mixColumns}
+use Rattle.aes.proofs.Columns.{joined}
+use Rattle.aes.specs.Steps.{mixColumns}
 use Rattle.aes.proofs.mix_columns.Statement.{statement}
 use Rattle.aes.proofs.mix_columns.Tie as tie
 
@@ -23,11 +22,10 @@ join-requires : tie.Need-join-requires
 join-requires c κs = search needs
 
 returns : tie.Need-returns
-unfolding mixColumns columns matrix
-returns c = c .join .ensures
-    ∙ (λ i.
-    fourColumns (c .before .before .before .before .mix-at .ensures i) (c .before .before .before .mix-at2 .ensures i)
-    (c .before .before .mix-at3 .ensures i) (c .before .mix-at4 .ensures i))
+unfolding mixColumns
+returns c = joined _ _ _ _ (c .before .before .before .before .before .args .s) _ _ _ _ _ (c .join .ensures)
+    (c .before .before .before .before .mix-at .ensures) (c .before .before .before .mix-at2 .ensures)
+    (c .before .before .mix-at3 .ensures) (c .before .mix-at4 .ensures)
 
 pub mix-columns-spec : {M : Type 1} → statement M
 mix-columns-spec =

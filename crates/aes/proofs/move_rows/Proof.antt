@@ -15,15 +15,15 @@ use Rattle.aes.specs.Steps.{moveRows}
 use Rattle.aes.proofs.move_rows.Statement.{statement}
 use Rattle.aes.proofs.move_rows.Tie as tie
 
--- how far to the right at most
-farthest : (columns i : ℕ) → columns < 4 → 4 * columns * (i % 4) ≤ 36
-farthest columns i h = mul-le-mul {n₂ = 12} {m₂ = 3} (omega arith) (omega arith)
+-- how far away the byte is at most
+farthest : (n i : ℕ) → n < 4 → 4 * n * (i % 4) ≤ 36
+farthest n i h = mul-le-mul {n₂ = 12} {m₂ = 3} (omega arith) (omega arith)
 
 abbrev Inv-loop : tie.InvT-loop
-Inv-loop columns s t₀ i₀ t i = (i ≤ 16) × (length t ≡ 16) × (take i t ≡ tabulate i (λ k. byte s ((k + 4 * columns * (k % 4)) % 16)))
+Inv-loop n s t₀ i₀ t i = (i ≤ 16) × (length t ≡ 16) × (take i t ≡ tabulate i (λ k. byte s ((k + 4 * n * (k % 4)) % 16)))
 
 abbrev μ-loop : tie.MeasureT-loop
-μ-loop columns s t₀ i₀ t i = 16 - i
+μ-loop n s t₀ i₀ t i = 16 - i
 
 loop-holds : tie.Need-loop-holds Inv-loop μ-loop
 unfolding tabulate
@@ -33,10 +33,10 @@ mul-t : tie.Need-mul-t Inv-loop μ-loop
 mul-t c = search needs
 
 mul-t-2 : tie.Need-mul-t-2 Inv-loop μ-loop
-mul-t-2 c = omega (arith, farthest (c .before .before .args .columns) (c .before .loop .i) (c .before .before .pre))
+mul-t-2 c = omega (arith, farthest (c .before .before .args .n) (c .before .loop .i) (c .before .before .pre))
 
 add-t : tie.Need-add-t Inv-loop μ-loop
-add-t c = omega (arith, farthest (c .before .before .args .columns) (c .before .loop .i) (c .before .before .pre))
+add-t c = omega (arith, farthest (c .before .before .args .n) (c .before .loop .i) (c .before .before .pre))
 
 array-read-t : tie.Need-array-read-t Inv-loop μ-loop
 array-read-t c = search needs

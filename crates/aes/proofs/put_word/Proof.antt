@@ -1,7 +1,7 @@
 -- `aes::put_word` meets its contract: after j turns the first j bytes of the word are pasted.
 -- Assumes nothing.
 use mathlib.Core.Path.{_≡_}
-use Prim.Native.Nat.{_+_, _-_, _*_, _≤_}
+use Prim.Native.Nat.{_-_, _*_, _≤_}
 use lib.Seq.{paste, paste-zero}
 use borrow.Author.Needs.{needs}
 use Rattle.laws.proofs.Paste.{paste-more, pasted}
