@@ -1,6 +1,6 @@
 -- InvCipher undoes Cipher and Cipher undoes InvCipher, for every key and every block of 16 bytes: of the definitions.
 -- Assumes nothing.
-use mathlib.Core.Path.{_≡_, refl, ap, _∙_}
+use mathlib.Core.Path.{_≡_, refl, ap, fun-ext, subst⁻¹}
 use mathlib.Core.List.{List}
 use Prim.Native.Nat.{ℕ, zero, suc}
 use Rattle.aes.specs.State.{Bytes, Block}
@@ -37,28 +37,23 @@ module _ (w : List ℕ) (bytes : Bytes w) where
   regrouped zero s = refl
   regrouped (suc n) s = regrouped n (invRound w (suc n) s)
 
-  cipher-inverses : Inverses (cipherWith w) (λ s. addRoundKey w 0 (unrounds 9 w (invSubBytes (invShiftRows (addRoundKey w 10 s)))))
+  stepwise : Inverses (cipherWith w) (λ s. addRoundKey w 0 (unrounds 9 w (invSubBytes (invShiftRows (addRoundKey w 10 s)))))
   unfolding cipherWith
-  cipher-inverses =
+  stepwise =
       chain (chain (chain (chain (add-inverses w bytes 0) (rounds-inverses 9)) sub-inverses) shift-inverses) (add-inverses w bytes 10)
 
-  inv-cipher-is : (s : List ℕ) → invCipherWith w s ≡ addRoundKey w 0 (unrounds 9 w (invSubBytes (invShiftRows (addRoundKey w 10 s))))
+  pub with-inverses : Inverses (cipherWith w) (invCipherWith w)
   unfolding invCipherWith
-  inv-cipher-is s = ap (addRoundKey w 0) (regrouped 9 (addRoundKey w 10 s))
+  with-inverses =
+      subst⁻¹ (λ (g : List ℕ → List ℕ). Inverses (cipherWith w) g) (fun-ext (λ s. ap (addRoundKey w 0) (regrouped 9 (addRoundKey w 10 s)))) stepwise
 
-  pub with-undo : (s : List ℕ) → Block s → invCipherWith w (cipherWith w s) ≡ s
-  with-undo s h = inv-cipher-is (cipherWith w s) ∙ cipher-inverses .there .undo s h
-
-  pub with-redo : (s : List ℕ) → Block s → cipherWith w (invCipherWith w s) ≡ s
-  with-redo s h = ap (cipherWith w) (inv-cipher-is s) ∙ cipher-inverses .back .undo s h
-
-  pub cipher-block : (s : List ℕ) → Block s → Block (cipherWith w s)
-  cipher-block = cipher-inverses .there .keeps
+-- under a key; with it, that both give blocks
+pub inverses : (key : List ℕ) → Block key → Inverses (cipher key) (invCipher key)
+unfolding cipher invCipher
+inverses key k = with-inverses (keyExpansion key) (expansion-bytes key (k .small))
 
 pub deciphers : (key block : List ℕ) → Block key → Block block → invCipher key (cipher key block) ≡ block
-unfolding cipher invCipher
-deciphers key block k b = with-undo (keyExpansion key) (expansion-bytes key (k .small)) block b
+deciphers key block k b = inverses key k .there .undo block b
 
 pub enciphers : (key block : List ℕ) → Block key → Block block → cipher key (invCipher key block) ≡ block
-unfolding cipher invCipher
-enciphers key block k b = with-redo (keyExpansion key) (expansion-bytes key (k .small)) block b
+enciphers key block k b = inverses key k .back .undo block b

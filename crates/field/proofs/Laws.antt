@@ -117,7 +117,11 @@ pub ruleset linear = (
   sums,
 )
 
--- ---- the inverse: of every byte but 0; and taken twice
+-- ---- the inverse: of 0, of every other byte, and taken twice
+pub inverse-zero : inverse 0 ≡ 0
+unfolding inverse power square mul mulBits xtime reduce _xor_
+inverse-zero = refl
+
 inverse-after : (k : ℕ) → k < 255 → mul (suc k) (inverse (suc k)) ≡ 1
 unfolding inverse power square mul mulBits xtime reduce _xor_
 inverse-after = agree (λ k. mul (suc k) (inverse (suc k))) (λ k. 1) 255 tt
