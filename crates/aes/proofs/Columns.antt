@@ -3,15 +3,14 @@
 use mathlib.Core.Path.{_≡_, ap, _∙_}
 use mathlib.Core.List.{List, [], _∷_}
 use Prim.Native.Nat.{ℕ, _<_}
-use lib.Dec.{lit<}
 use Rattle.laws.specs.Xor.{_xor_}
-use Rattle.laws.proofs.Each.{each-four}
 use Rattle.laws.proofs.Xor.{sums, xor-byte}
 use Rattle.field.specs.Field.{xtime, mul}
 use Rattle.field.proofs.Laws.{linear, mul-byte}
 use Rattle.aes.specs.State.{byte, Bytes}
 use Rattle.aes.specs.Engine.{fourColumns}
 use Rattle.aes.specs.Steps.{matrix, columns, mixColumn, invMixColumn}
+use Rattle.aes.proofs.Bytes.{four-bytes}
 
 -- a mixing of the column that a list of four bytes is
 abbrev pub onColumn : (ℕ → ℕ → ℕ → ℕ → List ℕ) → List ℕ → List ℕ
@@ -56,7 +55,7 @@ column-redo = column-back invMixColumn mixColumn (matrix-turns _ _ _ _) (matrix-
 pub matrix-bytes : (a0 a1 a2 a3 b0 b1 b2 b3 : ℕ) → b0 < 256 → b1 < 256 → b2 < 256 → b3 < 256 → Bytes (matrix a0 a1 a2 a3 b0 b1 b2 b3)
 unfolding matrix
 matrix-bytes a0 a1 a2 a3 b0 b1 b2 b3 h0 h1 h2 h3 =
-    each-four (λ (x : ℕ). x < 256) (lit< tt) _ _ _ _ (row a0 a3 a2 a1) (row a1 a0 a3 a2) (row a2 a1 a0 a3) (row a3 a2 a1 a0)
+    four-bytes _ _ _ _ (row a0 a3 a2 a1) (row a1 a0 a3 a2) (row a2 a1 a0 a3) (row a3 a2 a1 a0)
   where
     row : (p q r t : ℕ) → mul p b0 xor mul q b1 xor mul r b2 xor mul t b3 < 256
     row p q r t = xor-byte _ _ (xor-byte _ _ (xor-byte _ _ (mul-byte p b0 h0) (mul-byte q b1 h1)) (mul-byte r b2 h2)) (mul-byte t b3 h3)

@@ -1,3 +1,4 @@
+pub mod Bytes
 pub mod Columns
 pub mod RoundTrip
 pub mod Rounds

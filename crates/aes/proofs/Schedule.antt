@@ -9,26 +9,23 @@ use lib.ListN.{length, take}
 use lib.Seq.{getD-take, paste, length-paste, take-all, take-paste}
 use Rattle.laws.specs.Xor.{_xor_}
 use Rattle.laws.specs.Tabulate.{tabulate}
-use Rattle.laws.proofs.Each.{each-four, each-append}
-use Rattle.laws.proofs.Paste.{paste-within}
+use Rattle.laws.proofs.Paste.{paste-at}
 use Rattle.laws.proofs.Tabulate.{tabulate-own}
 use Rattle.laws.proofs.Xor.{xor-byte}
 use Rattle.field.proofs.Laws.{xtime-byte, sbox-byte}
 use Rattle.aes.specs.State.{byte, Bytes}
+use Rattle.aes.proofs.Bytes.{four-bytes, append-bytes}
 use Rattle.aes.specs.Schedule.{word, addWord, rotWord, subWord, powerOfX, rcon, temp, nextWord, moreWords, keyExpansion}
 
 -- ---- it is of bytes
-four : (a b c d : ℕ) → a < 256 → b < 256 → c < 256 → d < 256 → Bytes (a ∷ b ∷ c ∷ d ∷ [])
-four = each-four (λ (x : ℕ). x < 256) (lit< tt)
-
 add-bytes : (a b : List ℕ) → Bytes a → Bytes b → Bytes (addWord a b)
-add-bytes a b ha hb = four _ _ _ _ (sum 0) (sum 1) (sum 2) (sum 3)
+add-bytes a b ha hb = four-bytes _ _ _ _ (sum 0) (sum 1) (sum 2) (sum 3)
   where
     sum : (i : ℕ) → byte a i xor byte b i < 256
     sum i = xor-byte (byte a i) (byte b i) (ha i) (hb i)
 
 word-bytes : (w : List ℕ) (i : ℕ) → Bytes w → Bytes (word w i)
-word-bytes w i h = four _ _ _ _ (h _) (h _) (h _) (h _)
+word-bytes w i h = four-bytes _ _ _ _ (h _) (h _) (h _) (h _)
 
 power-byte : (n : ℕ) → powerOfX n < 256
 unfolding powerOfX
@@ -37,8 +34,8 @@ power-byte (suc n) = xtime-byte (powerOfX n)
 
 temp-bytes : (w : List ℕ) (i n : ℕ) → Bytes w → Bytes (temp w i n)
 temp-bytes w i zero h =
-    add-bytes (subWord (rotWord (word w (i - 1)))) (rcon (i / 4)) (four _ _ _ _ (sbox-byte _) (sbox-byte _) (sbox-byte _) (sbox-byte _))
-    (four _ _ _ _ (power-byte (i / 4 - 1)) (lit< tt) (lit< tt) (lit< tt))
+    add-bytes (subWord (rotWord (word w (i - 1)))) (rcon (i / 4)) (four-bytes _ _ _ _ (sbox-byte _) (sbox-byte _) (sbox-byte _) (sbox-byte _))
+    (four-bytes _ _ _ _ (power-byte (i / 4 - 1)) (lit< tt) (lit< tt) (lit< tt))
 temp-bytes w i (suc n) h = word-bytes w (i - 1) h
 
 next-bytes : (w : List ℕ) (i : ℕ) → Bytes w → Bytes (nextWord w i)
@@ -49,7 +46,7 @@ more-bytes : (n i : ℕ) (w : List ℕ) → Bytes w → Bytes (moreWords n i w)
 unfolding moreWords
 more-bytes zero i w h = h
 more-bytes (suc n) i w h =
-    more-bytes n (i + 1) (w ++ nextWord w i) (each-append (λ (x : ℕ). x < 256) (lit< tt) w (nextWord w i) h (next-bytes w i h))
+    more-bytes n (i + 1) (w ++ nextWord w i) (append-bytes w (nextWord w i) h (next-bytes w i h))
 
 pub expansion-bytes : (key : List ℕ) → Bytes key → Bytes (keyExpansion key)
 unfolding keyExpansion
@@ -115,7 +112,7 @@ newest w x i long high e =
     let four : length x ≡ 4 = ap length e in
     let at : i + 1 - 1 ≡ i = omega arith in
     let start : 4 * i + 0 ≡ 4 * i = omega arith in
-    let pasted = paste-within w (4 * i) x 4 (omega arith) (omega arith) in
+    let pasted = paste-at w x (4 * i) 4 (omega arith) (omega arith) in
     let zeroth : byte (paste w (4 * i) x 4) (4 * i) ≡ byte x 0 = sym (ap (byte (paste w (4 * i) x 4)) start) ∙ pasted 0 (omega arith) in
     sym (tabulate-own 4 x four)
     ∙ sym (ap (word (paste w (4 * i) x 4)) at

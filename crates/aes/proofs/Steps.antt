@@ -3,16 +3,15 @@
 use mathlib.Core.Path.{_≡_, refl, ap, _∙_}
 use mathlib.Core.List.{List, [], _∷_, _++_}
 use Prim.Native.Nat.{ℕ, _+_, _*_, _%_, _<_}
-use lib.Dec.{lit<}
 use Rattle.laws.specs.Tabulate.{tabulate}
 use Rattle.laws.specs.Xor.{_xor_}
-use Rattle.laws.proofs.Each.{each-append}
-use Rattle.laws.proofs.Tabulate.{length-tabulate, getD-tabulate, all-tabulate, tabulate-same, tabulate-own}
+use Rattle.laws.proofs.Tabulate.{getD-tabulate, tabulate-same, tabulate-own}
 use Rattle.laws.proofs.Xor.{xor-byte, xor-cancels}
 use Rattle.field.specs.Sbox.{sbox, invSbox}
 use Rattle.field.proofs.Laws.{sbox-byte, inv-sbox-byte, sbox-undo, sbox-redo}
 use Rattle.aes.specs.State.{byte, state, Bytes, Block}
 use Rattle.aes.specs.Steps.{substitute, subBytes, invSubBytes, moveRows, shiftRows, invShiftRows, matrix, columns, mixColumns, invMixColumns, addRoundKey}
+use Rattle.aes.proofs.Bytes.{append-bytes, state-block}
 use Rattle.aes.proofs.Columns.{onColumn, column-undo, column-redo, matrix-bytes}
 
 -- f keeps blocks blocks, and g undoes it
@@ -35,9 +34,6 @@ after {f} {g} u v =
 -- a step after a step is undone from the last to the first
 pub chain : {f g f′ g′ : List ℕ → List ℕ} → Inverses f g → Inverses f′ g′ → Inverses (λ s. f′ (f s)) (λ s. g (g′ s))
 chain p q = record { there = after (p .there) (q .there); back = after (q .back) (p .back) }
-
-state-block : (f : ℕ → ℕ) → ((k : ℕ) → f k < 256) → Block (state f)
-state-block f h = record { long = length-tabulate 16 f; small = all-tabulate (λ (x : ℕ). x < 256) 16 f (lit< tt) (λ k l. h k) }
 
 -- ---- SubBytes and InvSubBytes: a substitution is undone where it is undone on bytes
 substituted : (f g : ℕ → ℕ) → ((b : ℕ) → f b < 256) → ((b : ℕ) → b < 256 → g (f b) ≡ b) → Undone (substitute f) (substitute g)
@@ -69,16 +65,14 @@ shift-inverses =
     }
 
 -- ---- MixColumns and InvMixColumns: column by column
-join : (u v : List ℕ) → Bytes u → Bytes v → Bytes (u ++ v)
-join = each-append (λ (x : ℕ). x < 256) (lit< tt)
-
 columns-bytes : (f : ℕ → ℕ → ℕ → ℕ → List ℕ) → ((a b c d : ℕ) → a < 256 → b < 256 → c < 256 → d < 256 → Bytes (f a b c d))
     → (s : List ℕ) → Bytes s → Bytes (columns f s)
 unfolding columns
 columns-bytes f hf s h =
     let q : ℕ → List ℕ = λ i. f (byte s i) (byte s (i + 1)) (byte s (i + 2)) (byte s (i + 3)) in
     let hq : (i : ℕ) → Bytes (q i) = λ i. hf (byte s i) (byte s (i + 1)) (byte s (i + 2)) (byte s (i + 3)) (h i) (h (i + 1)) (h (i + 2)) (h (i + 3)) in
-    join (q 0 ++ q 4 ++ q 8) (q 12) (join (q 0 ++ q 4) (q 8) (join (q 0) (q 4) (hq 0) (hq 4)) (hq 8)) (hq 12)
+    append-bytes (q 0 ++ q 4 ++ q 8) (q 12)
+    (append-bytes (q 0 ++ q 4) (q 8) (append-bytes (q 0) (q 4) (hq 0) (hq 4)) (hq 8)) (hq 12)
 
 columns-undone : (m0 m1 m2 m3 n0 n1 n2 n3 : ℕ)
     → ((a b c d : ℕ) → onColumn (matrix n0 n1 n2 n3) (matrix m0 m1 m2 m3 a b c d) ≡ a ∷ b ∷ c ∷ d ∷ [])

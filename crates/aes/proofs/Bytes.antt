@@ -1,0 +1,17 @@
+-- Lists of bytes from bytes and from lists of bytes.
+-- Assumes nothing.
+use mathlib.Core.List.{List, [], _∷_, _++_}
+use Prim.Native.Nat.{ℕ, _<_}
+use lib.Dec.{lit<}
+use Rattle.laws.proofs.Each.{each-four, each-append}
+use Rattle.laws.proofs.Tabulate.{length-tabulate, all-tabulate}
+use Rattle.aes.specs.State.{state, Bytes, Block}
+
+pub four-bytes : (a b c d : ℕ) → a < 256 → b < 256 → c < 256 → d < 256 → Bytes (a ∷ b ∷ c ∷ d ∷ [])
+four-bytes = each-four (λ (x : ℕ). x < 256) (lit< tt)
+
+pub append-bytes : (u v : List ℕ) → Bytes u → Bytes v → Bytes (u ++ v)
+append-bytes = each-append (λ (x : ℕ). x < 256) (lit< tt)
+
+pub state-block : (f : ℕ → ℕ) → ((k : ℕ) → f k < 256) → Block (state f)
+state-block f h = record { long = length-tabulate 16 f; small = all-tabulate (λ (x : ℕ). x < 256) 16 f (lit< tt) (λ k l. h k) }
