@@ -31,10 +31,16 @@ one-less w s t g r h left e =
     ap (invRounds (r - 1) w) (e ∙ ap (λ (k : ℕ). invRound w k s) next) ∙ sym (ap (λ (k : ℕ). invRounds k w s) next) ∙ left
 
 -- under the schedule of a key
-pub scheduled : (key w block r : List ℕ) → w ≡ keyExpansion key → r ≡ cipherWith w block → r ≡ cipher key block
+pub ciphers : (key w : List ℕ) → w ≡ keyExpansion key → cipherWith w ≡ cipher key
 unfolding cipher
-scheduled key w block r made e = e ∙ ap (λ (v : List ℕ). cipherWith v block) made
+ciphers key w made = ap cipherWith made
+
+pub inv-ciphers : (key w : List ℕ) → w ≡ keyExpansion key → invCipherWith w ≡ invCipher key
+unfolding invCipher
+inv-ciphers key w made = ap invCipherWith made
+
+pub scheduled : (key w block r : List ℕ) → w ≡ keyExpansion key → r ≡ cipherWith w block → r ≡ cipher key block
+scheduled key w block r made e = e ∙ ap (λ (f : List ℕ → List ℕ). f block) (ciphers key w made)
 
 pub inv-scheduled : (key w block r : List ℕ) → w ≡ keyExpansion key → r ≡ invCipherWith w block → r ≡ invCipher key block
-unfolding invCipher
-inv-scheduled key w block r made e = e ∙ ap (λ (v : List ℕ). invCipherWith v block) made
+inv-scheduled key w block r made e = e ∙ ap (λ (f : List ℕ → List ℕ). f block) (inv-ciphers key w made)

@@ -4,3 +4,4 @@ pub mod Settled
 pub mod Tabulate
 pub mod Test
 pub mod Xor
+pub mod Zeros

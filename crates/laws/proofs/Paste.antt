@@ -1,12 +1,12 @@
 -- A loop that pastes into a list, and what then lies at each index.
 -- Assumes nothing.
 use Prim.Native.Nat.{ℕ, _+_, _≤_, _<_}
-use mathlib.Core.Path.{_≡_, sym, _∙_, ap}
-use mathlib.Core.List.{List, _++_}
+use mathlib.Core.Path.{_≡_, sym, _∙_, ap, ap₂}
+use mathlib.Core.List.{List, _++_, append-nil}
 use native.Mathlib.Numerals.{add-one}
 use native.Mathlib.Omega.{arith}
-use lib.ListN.{length, take, getD, set, List·getD-append}
-use lib.Seq.{paste, paste-suc, take-paste, drop-paste, length-take-le, getD-take, getD-drop, getD-append-add}
+use lib.ListN.{length, take, getD, set, List·getD-append, drop-of-length-le}
+use lib.Seq.{take-all, paste, paste-suc, take-paste, drop-paste, length-take-le, getD-take, getD-drop, getD-append-add}
 
 -- a turn of the loop `w[at + j] = s[j]; j += 1`, and its end
 pub paste-more : (d s w : List ℕ) (at j : ℕ) → at + j < length d → j < length s → w ≡ paste d at s j
@@ -15,6 +15,11 @@ paste-more d s w at j hd hs inv = rw add-one (ap (λ (l : List ℕ). set l (at +
 
 pub pasted : (d s w : List ℕ) (at j n : ℕ) → j ≡ n → w ≡ paste d at s j → w ≡ paste d at s n
 pasted d s w at j n e inv = inv ∙ ap (λ (k : ℕ). paste d at s k) e
+
+-- all of d pasted over
+pub pasted-over : (d s : List ℕ) (n : ℕ) → length d ≡ n → length s ≡ n → paste d 0 s n ≡ s
+pasted-over d s n hd hs =
+    ap₂ (λ (a b : List ℕ). a ++ b) (take-all n s (omega arith)) (drop-of-length-le d {i = 0 + n} (omega arith)) ∙ append-nil s
 
 -- n elements of s pasted into d at `at`
 module _ (d s : List ℕ) (at n : ℕ) (room : at + n ≤ length d) (enough : n ≤ length s) where

@@ -2,11 +2,11 @@
 -- Assumes nothing.
 use mathlib.Core.Path.{_≡_, refl, sym, ap, ap₂, _∙_, subst}
 use mathlib.Core.List.{List, [], _∷_, _++_}
-use Prim.Native.Nat.{ℕ, zero, suc, _+_, _<_}
+use Prim.Native.Nat.{ℕ, zero, suc, _+_, _≤_, _<_}
 use native.Mathlib.Omega.{arith}
 use native.Mathlib.Numerals.{add-one}
-use lib.ListN.{getD, take, set, length}
-use lib.Seq.{take-suc-set, take-all}
+use lib.ListN.{getD, take, drop, set, length, length-drop, length-set}
+use lib.Seq.{take-suc-set, take-all, length-take-le, getD-take, getD-drop}
 use Rattle.laws.specs.Tabulate.{tabulate}
 
 pub length-tabulate : (n : ℕ) (f : ℕ → ℕ) → length (tabulate n f) ≡ n
@@ -43,6 +43,12 @@ tabulate-own zero (x ∷ l) h = absurd (omega arith)
 tabulate-own (suc n) [] h = absurd (omega arith)
 tabulate-own (suc n) (x ∷ l) h = ap (λ (t : List ℕ). x ∷ t) (tabulate-own n l (omega arith))
 
+-- and so is a part of it
+pub tabulate-part : (n : ℕ) (l : List ℕ) (at : ℕ) → at + n ≤ length l → tabulate n (λ k. getD l (at + k) 0) ≡ take n (drop at l)
+tabulate-part n l at room =
+    tabulate-same n _ _ (λ k h. sym (getD-take n (drop at l) k 0 h ∙ getD-drop at l k 0))
+    ∙ tabulate-own n (take n (drop at l)) (length-take-le n (drop at l) (omega (arith, length-drop at l)))
+
 tabulate-last : (n : ℕ) (f : ℕ → ℕ) → tabulate (suc n) f ≡ tabulate n f ++ (f n ∷ [])
 unfolding tabulate
 tabulate-last zero f = refl
@@ -58,3 +64,9 @@ fill f t i v h e inv =
 -- the loop at its end
 pub filled : (f : ℕ → ℕ) (t : List ℕ) (i n : ℕ) → length t ≡ n → i ≡ n → take i t ≡ tabulate i f → t ≡ tabulate n f
 filled f t i n h k inv = sym (take-all n t (omega arith)) ∙ subst (λ (m : ℕ). take m t ≡ tabulate m f) k inv
+
+-- the last element stored after the loop
+pub filled-last : (f : ℕ → ℕ) (t : List ℕ) (i n v : ℕ) → length t ≡ suc n → i ≡ n → v ≡ f n → take i t ≡ tabulate i f → set t n v ≡ tabulate (suc n) f
+filled-last f t i n v h k e inv =
+    filled f (set t n v) (n + 1) (suc n) (length-set t n v ∙ h) (add-one n)
+    (fill f t n v (omega arith) e (subst (λ (m : ℕ). take m t ≡ tabulate m f) k inv))

@@ -1,0 +1,71 @@
+-- Lent buffers: what a test of their lengths tells, a whole one loaded or stored, and the two outcomes of a routine.
+-- Assumes nothing.
+use mathlib.Core.Path.{_≡_, refl, _∙_}
+use mathlib.Core.Bool.{Bool, true, false, cond, _&&_, false≢true}
+use mathlib.Core.List.{List}
+use Prim.Native.Nat.{ℕ, _*_, _%_, _≤_}
+use native.Mathlib.Omega.{arith}
+use borrow.Author.Tests.{eqb-true, leb-true}
+use lib.Dec.{eqb, leb}
+use lib.ListN.{length, take, drop}
+use lib.Seq.{take-all, paste}
+use Rattle.laws.proofs.Paste.{pasted-over}
+use Rattle.modes.specs.Answer.{noError, generalError, answer, ecbLengths, cbcLengths, cmacLengths, compressLengths}
+use Rattle.modes.specs.Cmac.{blockCount}
+
+-- ---- the tests
+both : (a b : Bool) → (a && b) ≡ true → (a ≡ true) × (b ≡ true)
+both true b h = (refl, h)
+both false b h = absurd (false≢true h)
+
+pub ecb-facts : (key input output : ℕ) → ecbLengths key input output ≡ true → (key ≡ 16) × (input ≡ 16) × (output ≡ 16)
+unfolding ecbLengths
+ecb-facts key input output h =
+    let a = both (eqb key 16) _ h in
+    let b = both (eqb input 16) (eqb output 16) (a .1) in
+    (eqb-true _ _ (a .0), eqb-true _ _ (b .0), eqb-true _ _ (b .1))
+
+pub cbc-facts : (key iv input output : ℕ) → cbcLengths key iv input output ≡ true
+    → (key ≡ 16) × (iv ≡ 16) × (input % 16 ≡ 0) × (output ≡ input)
+unfolding cbcLengths
+cbc-facts key iv input output h =
+    let a = both (eqb key 16) _ h in
+    let b = both (eqb iv 16) _ (a .1) in
+    let c = both (eqb (input % 16) 0) _ (b .1) in
+    let d = both (leb 16 input) _ (c .1) in
+    let e = both (leb input (16 * 4096)) (eqb output input) (d .1) in
+    (eqb-true _ _ (a .0), eqb-true _ _ (b .0), eqb-true _ _ (c .0), eqb-true _ _ (e .1))
+
+pub cmac-facts : (key bits message output : ℕ) → cmacLengths key bits message output ≡ true
+    → (key ≡ 16) × (bits ≤ 524288) × (message ≡ 16 * blockCount bits) × (output ≡ 16)
+unfolding cmacLengths
+cmac-facts key bits message output h =
+    let a = both (eqb key 16) _ h in
+    let b = both (leb bits 524288) _ (a .1) in
+    let c = both (eqb message (16 * blockCount bits)) (eqb output 16) (b .1) in
+    (eqb-true _ _ (a .0), leb-true _ _ (b .0), eqb-true _ _ (c .0), eqb-true _ _ (c .1))
+
+pub compress-facts : (out text output : ℕ) → compressLengths out text output ≡ true → (out ≡ 16) × (output ≡ 16)
+unfolding compressLengths
+compress-facts out text output h =
+    let a = both (eqb out 16) _ h in
+    let b = both (eqb (text % 16) 0) (eqb output 16) (a .1) in
+    (eqb-true _ _ (a .0), eqb-true _ _ (b .1))
+
+-- ---- a buffer of 16 bytes, loaded and stored
+pub loaded : (buffer block : List ℕ) → block ≡ take 16 (drop 0 buffer) → length buffer ≡ 16 → block ≡ buffer
+loaded buffer block e long = e ∙ take-all 16 buffer (omega arith)
+
+pub stored : (buffer block after : List ℕ) → after ≡ paste buffer 0 block 16 → length buffer ≡ 16 → length block ≡ 16 → after ≡ block
+stored buffer block after e long long′ = e ∙ pasted-over buffer block 16 long long′
+
+-- ---- the outcomes: the answer, and what a lent buffer then holds
+pub refused : (right : Bool) (result before : List ℕ) → right ≡ false
+    → (generalError ≡ answer right) × (before ≡ cond right result before)
+unfolding answer
+refused right result before e = (rw e, rw e)
+
+pub done : (right : Bool) (after result before : List ℕ) → right ≡ true → after ≡ result
+    → (noError ≡ answer right) × (after ≡ cond right result before)
+unfolding answer
+done right after result before e h = (rw e, rw e h)

@@ -1,0 +1,43 @@
+-- CMAC: the last block by its two cases, and the steps of the code put together.
+-- Assumes nothing.
+use mathlib.Core.Path.{_≡_, sym, ap, ap₂, _∙_}
+use mathlib.Core.Bool.{Bool, cond}
+use mathlib.Core.List.{List, [], _∷_, foldl, foldl-append}
+use Prim.Native.Nat.{ℕ, _-_, _*_}
+use native.Mathlib.Omega.{arith}
+use lib.ListN.{length, take, drop, length-drop}
+use lib.Seq.{take-all}
+use borrow.Author.Tests.{eq-eqb, ne-eqb}
+use Rattle.modes.specs.Blocks.{_⊕_, zeroBlock, blocks}
+use Rattle.modes.specs.Cbc.{chained}
+use Rattle.modes.specs.Cmac.{k1, k2, padded, blockCount, lastAt, lastBlock, cmac}
+
+module _ (ciph : List ℕ → List ℕ) where
+  pub complete : (r : ℕ) (x : List ℕ) → r ≡ 128 → k1 ciph ⊕ x ≡ lastBlock ciph r x
+  unfolding lastBlock
+  complete r x e = sym (ap (λ (b : Bool). cond b (k1 ciph ⊕ x) (k2 ciph ⊕ padded r x)) (eq-eqb r 128 e))
+
+  pub incomplete : (r : ℕ) (x : List ℕ) → (r ≡ 128 → ⊥) → k2 ciph ⊕ padded r x ≡ lastBlock ciph r x
+  unfolding lastBlock
+  incomplete r x e = sym (ap (λ (b : Bool). cond b (k1 ciph ⊕ x) (k2 ciph ⊕ padded r x)) (ne-eqb r 128 e))
+
+  -- the blocks before the last chained, and then the last
+  last-chained : (bits : ℕ) (m : List ℕ)
+      → ciph (lastBlock ciph (bits - 8 * lastAt bits) (drop (lastAt bits) m) ⊕ foldl (chained ciph) zeroBlock (blocks (take (lastAt bits) m)))
+      ≡ cmac ciph bits m
+  unfolding cmac
+  last-chained bits m =
+      sym (foldl-append (chained ciph) zeroBlock (blocks (take (lastAt bits) m)) (lastBlock ciph (bits - 8 * lastAt bits) (drop (lastAt bits) m) ∷ []))
+
+  pub mac-steps : (bits : ℕ) (m : List ℕ) (at : ℕ) (c x last sum t : List ℕ) → length m ≡ 16 * blockCount bits → at ≡ lastAt bits
+      → c ≡ foldl (chained ciph) zeroBlock (blocks (take at m)) → x ≡ take 16 (drop at m) → last ≡ lastBlock ciph (bits - 8 * at) x
+      → sum ≡ last ⊕ c → t ≡ ciph sum → t ≡ cmac ciph bits m
+  mac-steps bits m at c x last sum t long here ec ex el es et =
+      let rest : x ≡ drop (lastAt bits) m
+      = ex ∙ take-all 16 (drop at m) (omega (arith, length-drop at m)) ∙ ap (λ (k : ℕ). drop k m) here in
+      et
+      ∙ ap ciph
+      (es
+      ∙ ap₂ _⊕_ (el ∙ ap₂ (λ (k : ℕ) (y : List ℕ). lastBlock ciph (bits - 8 * k) y) here rest)
+      (ec ∙ ap (λ (k : ℕ). foldl (chained ciph) zeroBlock (blocks (take k m))) here))
+      ∙ last-chained bits m

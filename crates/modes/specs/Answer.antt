@@ -1,0 +1,36 @@
+-- The answers that these routines give, and the lengths that each of them takes: 01, "Numbers of the answers", "Using a key".
+-- Assumes nothing.
+use mathlib.Core.Bool.{Bool, _&&_, cond}
+use Prim.Native.Nat.{ℕ, _*_, _%_}
+use lib.Dec.{eqb, leb}
+use Rattle.modes.specs.Cmac.{blockCount}
+
+abbrev pub noError : ℕ
+noError = 0
+
+abbrev pub generalError : ℕ
+generalError = 12
+
+-- done where the lengths are right
+unfoldable pub answer : Bool → ℕ
+answer right = cond right noError generalError
+
+-- ECB: 16 bytes in and out
+unfoldable pub ecbLengths : ℕ → ℕ → ℕ → Bool
+ecbLengths key input output = eqb key 16 && (eqb input 16 && eqb output 16)
+
+-- CBC: 1 to 4,096 blocks, IV of 16 bytes, output as long as input
+unfoldable pub cbcLengths : ℕ → ℕ → ℕ → ℕ → Bool
+cbcLengths key iv input output =
+    eqb key 16 && (eqb iv 16 && (eqb (input % 16) 0 && (leb (16 * 1) input && (leb input (16 * 4096) && eqb output input))))
+
+-- MAC: 0 to 524,288 bits, the message exactly 16 times max(1, ceiling of bits / 128) bytes, output 16 bytes
+unfoldable pub cmacLengths : ℕ → ℕ → ℕ → ℕ → Bool
+cmacLengths key bits message output =
+    eqb key 16 && (leb bits 524288 && (eqb message (16 * blockCount bits) && eqb output 16))
+
+-- compression: from an output of 16 bytes, any number of whole blocks, output 16 bytes
+unfoldable pub compressLengths : ℕ → ℕ → ℕ → Bool
+compressLengths out text output = eqb out 16 && (eqb (text % 16) 0 && eqb output 16)
+
+-- KDF: three times 16 bytes, as for ECB
