@@ -3,7 +3,8 @@
 use mathlib.Core.List.{List, [], _∷_, _++_}
 use Prim.Native.Nat.{ℕ, _<_}
 use lib.Dec.{lit<}
-use Rattle.laws.proofs.Each.{each-four, each-append}
+use lib.ListN.{take, drop}
+use Rattle.laws.proofs.Each.{each-four, each-append, each-take, each-drop}
 use Rattle.laws.proofs.Tabulate.{length-tabulate, all-tabulate}
 use Rattle.aes.specs.State.{state, Bytes, Block}
 
@@ -12,6 +13,12 @@ four-bytes = each-four (λ (x : ℕ). x < 256) (lit< tt)
 
 pub append-bytes : (u v : List ℕ) → Bytes u → Bytes v → Bytes (u ++ v)
 append-bytes = each-append (λ (x : ℕ). x < 256) (lit< tt)
+
+pub take-bytes : (n : ℕ) (s : List ℕ) → Bytes s → Bytes (take n s)
+take-bytes = each-take (λ (x : ℕ). x < 256) (lit< tt)
+
+pub drop-bytes : (n : ℕ) (s : List ℕ) → Bytes s → Bytes (drop n s)
+drop-bytes = each-drop (λ (x : ℕ). x < 256) (lit< tt)
 
 pub state-block : (f : ℕ → ℕ) → ((k : ℕ) → f k < 256) → Block (state f)
 state-block f h = record { long = length-tabulate 16 f; small = all-tabulate (λ (x : ℕ). x < 256) 16 f (lit< tt) (λ k l. h k) }

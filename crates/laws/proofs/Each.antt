@@ -1,8 +1,10 @@
 -- What holds of the number at each index of a list, 0 past its end.
 -- Assumes nothing.
+use mathlib.Core.Path.{subst⁻¹}
 use mathlib.Core.List.{List, [], _∷_, _++_}
-use Prim.Native.Nat.{ℕ, zero, suc}
-use lib.ListN.{getD}
+use Prim.Native.Nat.{ℕ, zero, suc, _+_}
+use lib.ListN.{getD, take, drop}
+use lib.Seq.{getD-drop}
 
 module _ (P : ℕ → Type 0) (of-zero : P 0) where
   pub each-nil : (i : ℕ) → P (getD [] i 0)
@@ -20,3 +22,12 @@ module _ (P : ℕ → Type 0) (of-zero : P 0) where
   each-append [] v hu hv i = hv i
   each-append (x ∷ u) v hu hv zero = hu 0
   each-append (x ∷ u) v hu hv (suc i) = each-append u v (λ k. hu (suc k)) hv i
+
+  pub each-take : (n : ℕ) (l : List ℕ) → ((i : ℕ) → P (getD l i 0)) → (i : ℕ) → P (getD (take n l) i 0)
+  each-take zero l h i = of-zero
+  each-take (suc n) [] h i = of-zero
+  each-take (suc n) (x ∷ l) h zero = h 0
+  each-take (suc n) (x ∷ l) h (suc i) = each-take n l (λ k. h (suc k)) i
+
+  pub each-drop : (n : ℕ) (l : List ℕ) → ((i : ℕ) → P (getD l i 0)) → (i : ℕ) → P (getD (drop n l) i 0)
+  each-drop n l h i = subst⁻¹ P (getD-drop n l i 0) (h (n + i))

@@ -88,6 +88,11 @@ pub xor-low : (k a b : ℕ) → (a xor b) % 2 ^ k ≡ a % 2 ^ k xor b % 2 ^ k
 unfolding _xor_
 xor-low k a b = xor-mod a b k
 
+-- of two numbers that are each put together from a part above k bits and one below
+pub xor-joined : (k a b r t : ℕ) → r < 2 ^ k → t < 2 ^ k → (a * 2 ^ k + r) xor (b * 2 ^ k + t) ≡ (a xor b) * 2 ^ k + (r xor t)
+unfolding _xor_
+xor-joined = xor-block
+
 pub xor-double : (a b : ℕ) → (a xor b) * 2 ≡ a * 2 xor b * 2
 unfolding _xor_
 xor-double a b =

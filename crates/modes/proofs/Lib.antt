@@ -1,7 +1,12 @@
 pub mod Blocks
+pub mod Cbc
 pub mod Compression
+pub mod Counted
+pub mod Labels
 pub mod Lent
 pub mod MacSteps
+pub mod Number
 pub mod Padding
 pub mod Runs
 pub mod Subkeys
+pub mod Texts

@@ -1,10 +1,11 @@
 -- Texts of whole blocks, b = 128 bits each, and what goes through a text block by block.
 -- Assumes nothing.
+use mathlib.Core.Path.{_≡_}
 use mathlib.Core.List.{List, [], _∷_}
-use Prim.Native.Nat.{ℕ, zero, suc, _/_}
+use Prim.Native.Nat.{ℕ, zero, suc, _*_, _/_}
 use lib.ListN.{length, take, drop, replicate}
 use Rattle.laws.specs.Xor.{_xor_}
-use Rattle.aes.specs.State.{byte, state}
+use Rattle.aes.specs.State.{byte, state, Bytes}
 
 -- the exclusive or of two blocks, bit by bit
 infixl 68 _⊕_
@@ -28,3 +29,8 @@ blocks text = parse (length text / 16) text
 unfoldable pub outputs : (List ℕ → List ℕ → List ℕ) → (List ℕ → List ℕ → List ℕ) → List ℕ → List (List ℕ) → List (List ℕ)
 outputs out next c [] = []
 outputs out next c (x ∷ xs) = out c x ∷ outputs out next (next c x) xs
+
+-- what theorems ask of a text: n whole blocks of bytes
+pub record Text (n : ℕ) (s : List ℕ) : Type 0 where
+  pub long : length s ≡ 16 * n
+  pub small : Bytes s

@@ -1,8 +1,9 @@
 -- CMAC of SP 800-38B, section 6, over a block cipher `ciph` under its key, with MACs of all 128 bits.
 -- Assumes nothing.
+use mathlib.Core.Path.{_≡_}
 use mathlib.Core.Bool.{cond}
 use mathlib.Core.List.{List, [], _∷_, _++_, foldl}
-use Prim.Native.Nat.{ℕ, _+_, _-_, _*_, _/_, _%_, _^_, max}
+use Prim.Native.Nat.{ℕ, _+_, _-_, _*_, _/_, _%_, _^_, _<_, max}
 use lib.Dec.{eqb}
 use lib.ListN.{take, drop, replicate}
 use Rattle.field.specs.Field.{bit}
@@ -56,6 +57,9 @@ cmac ciph bits message =
     foldl (chained ciph) zeroBlock
     (blocks (take (lastAt bits) message) ++ (lastBlock ciph (bits - 8 * lastAt bits) (drop (lastAt bits) message) ∷ []))
 
--- ---- bit i of a message, the most significant of a byte first; and messages that have their first `bits` bits in common
+-- ---- bit i of a message, the most significant of a byte first; messages that have their first `bits` bits in common
 abbrev pub messageBit : List ℕ → ℕ → ℕ
 messageBit message i = bit (byte message (i / 8)) (7 - i % 8)
+
+abbrev pub Agree : ℕ → List ℕ → List ℕ → Type 0
+Agree bits a b = (i : ℕ) → i < bits → messageBit a i ≡ messageBit b i

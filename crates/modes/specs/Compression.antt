@@ -22,15 +22,16 @@ compress text = compressFrom zeroBlock text
 unfoldable pub kdf : List ℕ → List ℕ → List ℕ
 kdf key constant = compress (key ++ constant)
 
--- ---- the padding of a message of l bits: a 1, k zeros with k the smallest for which l + 1 + k = 88 modulo 128, and l itself
--- in 40 bits
+-- ---- the preprocessing of a message of l bits: a 1, k zeros with k the smallest for which l + 1 + k = 88 modulo 128, and l
+-- itself in 40 bits. Here for messages in whole bytes: the byte 80 has the 1 and seven of the zeros
 abbrev pub zeroBits : ℕ → ℕ
 zeroBits l = (216 - (l + 1) % 128) % 128
 
 abbrev pub inFiveBytes : ℕ → List ℕ
 inFiveBytes l = l / 0x100000000 % 256 ∷ l / 0x1000000 % 256 ∷ l / 0x10000 % 256 ∷ l / 0x100 % 256 ∷ l % 256 ∷ []
 
--- of a message in whole bytes: 7 of the zeros are in the byte of the 1
+unfoldable pub padding : ℕ → List ℕ
+padding l = (0x80 ∷ replicate (zeroBits l / 8) 0) ++ inFiveBytes l
+
 unfoldable pub preprocessed : List ℕ → List ℕ
-preprocessed message =
-    message ++ (0x80 ∷ replicate (zeroBits (8 * length message) / 8) 0) ++ inFiveBytes (8 * length message)
+preprocessed message = message ++ padding (8 * length message)
