@@ -1,4 +1,5 @@
-"""Compares the proved program `vectors` with the second program on many inputs: random and extreme, valid and damaged.
+"""Compares the proved program `vectors` with the second program on many inputs: random and extreme, valid and damaged, short
+and long.
 
 compare.py COMMAND..: COMMAND runs `vectors`. The seed is fixed, so that a run can be had again; the first line that differs
 ends it with status 1.
@@ -10,41 +11,138 @@ import sys
 
 import second
 
-LINES = 800  # a run of the program reads 64 KiB
+ROOM = 65536  # a run of the program reads 64 KiB, and operands of at most 8 KiB
+RUNS = {"random": 20, "extreme": 4, "damaged": 14}
 
 
-def hexed(*parts):
-    return " ".join(part.hex() for part in parts)
+def rows(data):
+    text = data.hex()
+    return [text[i : i + 32] for i in range(0, len(text), 32)]
 
 
-def valid(source):
-    """A line, and the lines that it must give."""
-    key, block = source(), source()
-    kind = random.choice("EEEDDDK")
-    if kind == "K":
-        return f"K {hexed(key)}", [round_key.hex() for round_key in second.expand(key)]
-    result = second.encrypt(key, block) if kind == "E" else second.decrypt(key, block)
-    return f"{kind} {hexed(key, block)}", [result.hex()]
+def outcome(result):
+    """Of a routine on buffers: the answer, and the output."""
+    answer, output = result
+    return [f"{answer:02x}"] + rows(output)
+
+
+def random_bytes(size):
+    return random.randbytes(size)
+
+
+def extreme_bytes(size):
+    pattern = random.choice([b"\0", b"\xff", b"\x80" + bytes(15), bytes(15) + b"\x01", bytes(range(16))])
+    return (pattern * size)[:size]
+
+
+def blocks():
+    return 16 * random.choice([1, 1, 1, 1, 2, 2, 2, 3, 3, 4, 7, random.randrange(1, 200)])
+
+
+def numbers():
+    """A number of bits, and how many bytes a message of so many bits has."""
+    bits = random.choice([0, 1, 7, 8, 127, 128, 129, 255, 256, 257, random.randrange(1000), random.randrange(20000)])
+    return bits, 16 * max(1, (bits + 127) // 128)
+
+
+# Each routine: what it is given, and what it must write. The operands that are bytes come first, numbers after them.
+def two(name, rule):
+    return lambda take: (name, [take(16), take(16)], [], lambda a, b: rows(rule(a, b)))
+
+
+def three(name, rule):
+    return lambda take: (name, [take(16), take(16), take(16)], [], lambda a, b, out: outcome(rule(a, b, out)))
+
+
+def chain(name, rule):
+    def case(take):
+        size = blocks()
+        return name, [take(16), take(16), take(size), take(size)], [], lambda k, v, t, out: outcome(rule(k, v, t, out))
+
+    return case
+
+
+def mac(take):
+    bits, size = numbers()
+    return "M", [take(16), take(size), take(16)], [bits], lambda k, m, out, n: outcome(second.cmac(k, n, m, out))
+
+
+def long_mac(take):
+    """Of a message that is one block again and again, up to the longest and a little more."""
+    bits = random.choice([random.randrange(524289), 524288, 524289])
+    count = random.choice([max(1, (bits + 127) // 128)] * 3 + [random.randrange(4101)])
+    key, block, out = take(16), take(16), take(16)
+    line = f"R {key.hex()} / {bits:06x} / {block.hex()} / {count:04x} / {out.hex()}"
+    return line, outcome(second.cmac(key, bits, block * count, out))
+
+
+def compression(take):
+    return "H", [take(16), take(blocks()), take(16)], [], lambda s, t, out: outcome(second.compress(s, t, out))
+
+
+def derivation(take):
+    return "N", [take(16)], [random.randrange(1, 6)], lambda k, n: rows(second.derive(k, n))
+
+
+ROUTINES = [
+    lambda take: ("K", [take(16)], [], lambda k: rows(b"".join(second.expand(k)))),
+    lambda take: ("S", [take(16)], [], lambda k: rows(b"".join(second.subkeys(k)))),
+    two("E", second.encrypt),
+    two("D", second.decrypt),
+    two("X", second.extend),
+    derivation,
+    three("e", lambda k, b, out: second.ecb(second.encrypt, k, b, out)),
+    three("d", lambda k, b, out: second.ecb(second.decrypt, k, b, out)),
+    three("F", second.kdf),
+    chain("C", second.cbc_encrypt),
+    chain("c", second.cbc_decrypt),
+    mac,
+    mac,
+    compression,
+]
+LENT = "edFCcMH"  # these take any lengths, and refuse the wrong ones
+
+
+def line_of(name, given, counted):
+    texts = [data.hex() for data in given]
+    if name == "M":
+        texts.insert(1, f"{counted[0]:016x}")
+    else:
+        texts += [f"{number:02x}" for number in counted]
+    if random.randrange(4) == 0:
+        texts = [" ".join(text[i : i + 8] for i in range(0, len(text), 8)) for text in texts]
+    return name + " " + " / ".join(texts)
+
+
+def valid(take):
+    name, given, counted, rule = random.choice(ROUTINES)(take)
+    return line_of(name, given, counted), rule(*given, *counted)
+
+
+def other_length(data):
+    """The data with a byte, a block or all of it gone or added."""
+    return random.choice([data[:-1], data + b"\x5a", data[1:], data[:-16], data + bytes(16), b"", data * 2])
 
 
 def damaged():
-    """A line of a wrong length or with no such routine, which must give a refusal; or a good one in another grouping."""
-    line, result = valid(lambda: random.randbytes(16))
-    how = random.randrange(5)
-    if how == 0:
-        return line[: -random.randrange(1, 33)], ["no such vector"]
-    if how == 1:
-        return line + "0" * random.randrange(1, 40), ["no such vector"]
-    if how == 2:
-        return random.choice("ABXZ") + line[1:], ["no such vector"]
-    if how == 3:
-        return line[0], ["no such vector"]
-    digits = line[2:].replace(" ", "")
-    return line[0] + " ".join(digits[i : i + 8] for i in range(0, len(digits), 8)), result
+    name, given, counted, rule = random.choice(ROUTINES)(random_bytes)
+    if random.randrange(8) == 0:
+        return random.choice("ABGXZabz019") + "~", ["no such vector"]
+    if name == "M" and random.randrange(3) == 0:
+        counted[0] = random.choice([counted[0] ^ 1 << random.randrange(64), counted[0] + 1, counted[0] + 128, 2**64 - 1])
+    elif name == "N" and random.randrange(3) == 0:
+        counted[0] = random.choice([0, 6, 7, 255])
+    else:
+        which = random.randrange(len(given))
+        given[which] = other_length(given[which])
+    if name not in LENT:
+        right = all(len(data) == 16 for data in given) and all(1 <= number <= 5 for number in counted)
+        return line_of(name, given, counted), rule(*given, *counted) if right else ["no such vector"]
+    return line_of(name, given, counted), rule(*given, *counted)
 
 
-def extreme():
-    return random.choice([bytes(16), b"\xff" * 16, b"\x80" + bytes(15), bytes(15) + b"\x01", bytes(range(16))])
+MAKERS = {"random": lambda: valid(random_bytes), "extreme": lambda: valid(extreme_bytes), "damaged": damaged}
+LONG = 8
 
 
 def one_run(command, cases):
@@ -53,7 +151,7 @@ def one_run(command, cases):
     at = 0
     for line, expected in cases:
         if got[at : at + len(expected)] != expected:
-            print(f"compare: of {line!r}\n  expected {expected}\n  got      {got[at : at + len(expected)]}")
+            print(f"compare: of {line[:500]}\n  expected {expected[:8]}\n  got      {got[at : at + 8]}")
             sys.exit(1)
         at += len(expected)
     if got[at:] != [""]:
@@ -64,13 +162,23 @@ def one_run(command, cases):
 def main():
     command = sys.argv[1:]
     random.seed(197)
-    count = 0
-    for run in range(10):
-        source = extreme if run == 0 else lambda: random.randbytes(16)
-        cases = [damaged() if run == 1 else valid(source) for _ in range(LINES)]
-        one_run(command, cases)
-        count += len(cases)
-    print(f"compare: the proved program and the second one agree on {count} lines")
+    refused = count = 0
+    for kind, runs in RUNS.items():
+        for _ in range(runs):
+            cases, room = [], ROOM
+            while True:
+                line, expected = MAKERS[kind]()
+                room -= len(line) + 1
+                if room < 0:
+                    break
+                cases.append((line, expected))
+            one_run(command, cases)
+            count += len(cases)
+            refused += sum(expected[0] in ("0c", "no such vector") for _, expected in cases)
+    cases = [long_mac(random_bytes) for _ in range(LONG)]
+    one_run(command, cases)
+    count += len(cases)
+    print(f"compare: the proved program and the second one agree on {count} lines, {refused} of them refusals")
 
 
 main()

@@ -5,6 +5,8 @@ S-box is made from the field when the program starts, and the inverse cipher und
 first.
 """
 
+import functools
+
 EXP = [1]
 for _ in range(254):
     a = EXP[-1]
@@ -31,6 +33,7 @@ MIX = [[2, 3, 1, 1], [1, 2, 3, 1], [1, 1, 2, 3], [3, 1, 1, 2]]
 INV_MIX = [[14, 11, 13, 9], [9, 14, 11, 13], [13, 9, 14, 11], [11, 13, 9, 14]]
 
 
+@functools.cache
 def expand(key):
     """The eleven round keys, 16 bytes each."""
     words = [list(key[i : i + 4]) for i in range(0, 16, 4)]
@@ -94,3 +97,110 @@ def decrypt(key, block):
             state = mix(state, INV_MIX)
         state = substitute(shift(state, -1), INV_SBOX)
     return block_of(add(state, keys[0]))
+
+
+# ---- modes of operation, from SP 800-38A, SP 800-38B and SHE's specification: on integers of 128 bits and on strings of bits.
+# A routine on buffers gives its answer and what the output then holds; 12 is a wrong length, and leaves it as it was.
+
+
+def integer(block):
+    return int.from_bytes(block, "big")
+
+
+def block_bytes(value):
+    return value.to_bytes(16, "big")
+
+
+def xor(a, b):
+    return block_bytes(integer(a) ^ integer(b))
+
+
+def pieces(text):
+    return [text[i : i + 16] for i in range(0, len(text), 16)]
+
+
+def ecb(one_block, key, block, output):
+    if (len(key), len(block), len(output)) != (16, 16, 16):
+        return 12, output
+    return 0, one_block(key, block)
+
+
+def cbc_lengths(key, iv, text, output):
+    blocks, rest = divmod(len(text), 16)
+    return len(key) == 16 and len(iv) == 16 and rest == 0 and 1 <= blocks <= 4096 and len(output) == len(text)
+
+
+def cbc_encrypt(key, iv, text, output):
+    if not cbc_lengths(key, iv, text, output):
+        return 12, output
+    chain = [iv]
+    for piece in pieces(text):
+        chain.append(encrypt(key, xor(piece, chain[-1])))
+    return 0, b"".join(chain[1:])
+
+
+def cbc_decrypt(key, iv, text, output):
+    if not cbc_lengths(key, iv, text, output):
+        return 12, output
+    return 0, b"".join(xor(decrypt(key, c), before) for before, c in zip([iv] + pieces(text), pieces(text)))
+
+
+def doubled(value):
+    return value << 1 if value < 1 << 127 else (value << 1) ^ (1 << 128 | 0x87)
+
+
+def subkeys(key):
+    first = doubled(integer(encrypt(key, bytes(16))))
+    return block_bytes(first), block_bytes(doubled(first))
+
+
+def cmac(key, bits, message, output):
+    count = max(1, -(-bits // 128))
+    if len(key) != 16 or bits > 524288 or len(message) != 16 * count or len(output) != 16:
+        return 12, output
+    string = "".join(f"{byte:08b}" for byte in message)[:bits]
+    whole = bits == 128 * count
+    if not whole:
+        string = (string + "1").ljust(128 * count, "0")
+    blocks = [int(string[i : i + 128], 2) for i in range(0, 128 * count, 128)]
+    blocks[-1] ^= integer(subkeys(key)[0 if whole else 1])
+    state = bytes(16)
+    for block in blocks:
+        state = encrypt(key, block_bytes(block ^ integer(state)))
+    return 0, state
+
+
+def compressed(state, text):
+    for piece in pieces(text):
+        state = block_bytes(integer(encrypt(state, piece)) ^ integer(piece) ^ integer(state))
+    return state
+
+
+def compress(state, text, output):
+    if len(state) != 16 or len(text) % 16 != 0 or len(output) != 16:
+        return 12, output
+    return 0, compressed(state, text)
+
+
+def preprocessed(message):
+    """The padding of 001, 4.3.3, on a string of bits."""
+    length = 8 * len(message)
+    string = "".join(f"{byte:08b}" for byte in message) + "1"
+    while len(string) % 128 != 88:
+        string += "0"
+    string += f"{length:040b}"
+    return int(string, 2).to_bytes(len(string) // 8, "big")
+
+
+def kdf(key, constant, output):
+    if (len(key), len(constant), len(output)) != (16, 16, 16):
+        return 12, output
+    return 0, compressed(bytes(16), key + constant)
+
+
+def derive(key, number):
+    return compressed(bytes(16), preprocessed(key + bytes([1, number]) + b"SHE\0"))
+
+
+def extend(seed, entropy):
+    return compressed(bytes(16), preprocessed(seed + entropy))

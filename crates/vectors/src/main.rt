@@ -1,22 +1,34 @@
 // Runs vectors through the proved routines and writes what comes out, for the gate to compare with what was published.
 //
-// A line of the input is a letter that names the routine, and then its operands in hexadecimal, with spaces wherever one
-// likes; the result is written as 16 bytes a line. A line that starts with # is a heading, and is written as it is. So a
-// vector is added as data: a line of stdin, and in stdout the lines that it must give.
+// A line of the input is a letter that names the routine, and then its operands in hexadecimal with a slash between two of
+// them, and spaces wherever one likes. A line that starts with # is a heading, and is written as it is. So a vector is added as
+// data: a line of stdin, and in stdout the lines that it must give. Bytes are written 16 a line.
 //
-//     K key            the key schedule
-//     E key block      the block enciphered
-//     D key block      the block deciphered
-ghost use Prim.Native.Nat.{_≤_};
+//     K key                            the key schedule
+//     E key / block                    the block enciphered
+//     D key / block                    the block deciphered
+//     S key                            the two subkeys of CMAC
+//     N key / number                   the key derived with the constant of this number, 1 to 5
+//     X seed / entropy                 the seed extended
+//
+// The routines on lent buffers take operands of any length. The last is the buffer for the result; it is written as the
+// routine leaves it, after the answer.
+//
+//     e key / block / output           ECB
+//     d key / block / output           ECB, back
+//     C key / iv / text / output       CBC
+//     c key / iv / text / output       CBC, back
+//     M key / bits / message / output  CMAC of the first bits of the message, their number in up to 8 bytes
+//     R key / bits / block / count / output    the same, of a message that is so many times the block
+//     H state / text / output          the compression carried on from a state
+//     F key / constant / output        KDF
+ghost use Prim.Native.Nat.{_+_, _≤_, _<_};
 ghost use lib.ListN.{length};
 use libc::STDIN_FILENO;
 use libc::STDOUT_FILENO;
 
-// The operands of a line, one after the other, and how many digits they had.
-struct Decoded {
-    bytes: [u8; 1024],
-    digits: usize,
-}
+// How many bytes an operand of a routine on lent buffers can have.
+const ROOM: usize = 8192;
 
 // The value of a hexadecimal digit, and 16 for any other character.
 fn digit(c: u8) -> u8 {
@@ -27,87 +39,263 @@ fn digit(c: u8) -> u8 {
     }
 }
 
-fn with_digit(o: Decoded, d: u8) -> Decoded {
-    let at = o.digits / 2;
-    if 1024 <= at {
-        return o;
+// Another character of an operand with so many digits: a digit goes to its place, if there is room. How many it has then.
+fn with_character(bytes: &mut [u8], digits: usize, c: u8) -> usize
+    requires { ⌜ digits < 0xffffffffffffffff ⌝ }
+    ensures { λ r. ⌜ r ≤ digits + 1 ⌝ }
+{
+    let d = digit(c);
+    if 16 <= d {
+        return digits;
     }
-    let mut next = o;
-    next.bytes[at] = next.bytes[at] << 4 ^ d;
-    next.digits = o.digits + 1;
-    next
+    let at = digits / 2;
+    if bytes.len() <= at {
+        return digits + 1;
+    }
+    bytes[at] = bytes[at] << 4 ^ d;
+    digits + 1
 }
 
-fn decode(line: &[u8]) -> Decoded {
-    let mut o = Decoded {
-        bytes: [0; 1024],
-        digits: 0,
-    };
-    let mut i: usize = 1;
-    while i < line.len() {
-        let d = digit(line[i]);
-        if d < 16 {
-            o = with_digit(o, d);
+// Where the operand after n slashes of a line begins: past them, or at the line's end.
+fn operand_start(line: &[u8], n: usize) -> usize
+    ensures { λ r. ⌜ r ≤ length (now (line .entry)) ⌝ }
+{
+    let mut slashes = n;
+    let mut i: usize = 0;
+    while i < line.len() && slashes > 0 {
+        if line[i] == b'/' {
+            slashes -= 1;
         }
         i += 1;
     }
-    o
+    i
 }
 
-// The byte at an index, and 0 past the end.
-fn byte_at(bytes: &[u8], i: usize) -> u8 {
-    if i < bytes.len() { bytes[i] } else { 0 }
-}
-
-fn block_at(bytes: &[u8], at: usize) -> [u8; 16]
-    requires { ⌜ at ≤ 1024 ⌝ }
-{
-    let mut b = [0u8; 16];
-    let mut i: usize = 0;
-    while i < 16 {
-        b[i] = byte_at(bytes, at + i);
+// The operand after n slashes: its bytes, as far as there is room, and how many digits it has.
+fn operand(line: &[u8], n: usize, bytes: &mut [u8]) -> usize {
+    let mut digits: usize = 0;
+    let mut i = operand_start(line, n);
+    while i < line.len() && line[i] != b'/' {
+        digits = with_character(bytes, digits, line[i]);
         i += 1;
     }
-    b
+    digits
+}
+
+// The first n bytes, or all.
+fn front(bytes: &[u8], n: usize) -> &[u8] {
+    if n < bytes.len() { &bytes[..n] } else { bytes }
+}
+
+fn front_mut(bytes: &mut [u8], n: usize) -> &mut [u8] {
+    if n < bytes.len() {
+        &mut bytes[..n]
+    } else {
+        bytes
+    }
+}
+
+fn with_byte(value: u64, byte: u8) -> u64 {
+    value << 8 ^ byte as u64
+}
+
+// The number of some bytes, the most significant first.
+fn value_of(bytes: &[u8]) -> u64 {
+    let mut value: u64 = 0;
+    let mut i: usize = 0;
+    while i < bytes.len() {
+        value = with_byte(value, bytes[i]);
+        i += 1;
+    }
+    value
+}
+
+fn number(line: &[u8], n: usize) -> u64 {
+    let mut bytes = [0u8; 8];
+    let size = operand(line, n, &mut bytes) / 2;
+    value_of(front(&bytes, size))
 }
 
 fn letter(nibble: u8) -> u8 {
     b"0123456789abcdef"[(nibble % 16) as usize]
 }
 
-// Sixteen bytes as a line.
-fn write_block(b: [u8; 16]) {
+// Up to sixteen bytes as a line.
+fn write_row(row: &[u8])
+    requires { ⌜ length (now row) ≤ 16 ⌝ }
+{
     let mut line = [b'\n'; 33];
     let mut i: usize = 0;
-    while i < 16 {
-        line[2 * i] = letter(b[i] >> 4);
-        line[2 * i + 1] = letter(b[i]);
+    while i < row.len() {
+        line[2 * i] = letter(row[i] >> 4);
+        line[2 * i + 1] = letter(row[i]);
         i += 1;
     }
-    io::write_all(STDOUT_FILENO, &line);
+    let end = 2 * row.len() + 1;
+    io::write_all(STDOUT_FILENO, &line[..end]);
 }
 
-fn write_schedule(w: [u8; 176]) {
-    let mut r: usize = 0;
-    while r < 11 {
-        write_block(block_at(&w, 16 * r));
-        r += 1;
+// Where the row that starts at `at` ends.
+fn row_end(at: usize, size: usize) -> usize
+    requires { ⌜ at < size ⌝ }
+    ensures { λ r. ⌜ (at < r) × (r ≤ size) × (r ≤ at + 16) ⌝ }
+{
+    if size - at < 16 { size } else { at + 16 }
+}
+
+fn write_bytes(bytes: &[u8]) {
+    let mut at: usize = 0;
+    while at < bytes.len() {
+        let end = row_end(at, bytes.len());
+        write_row(&bytes[at..end]);
+        at = end;
     }
 }
 
-fn answer(routine: u8, o: Decoded) {
-    let bytes = o.bytes;
-    let first = block_at(&bytes, 0);
-    let second = block_at(&bytes, 16);
-    if routine == b'K' && o.digits == 32 {
-        write_schedule(aes::expand_key(first));
-    } else if routine == b'E' && o.digits == 64 {
-        write_block(aes::encrypt(first, second));
-    } else if routine == b'D' && o.digits == 64 {
-        write_block(aes::decrypt(first, second));
+// The answer of a routine on lent buffers, and its buffer.
+fn write_outcome(answer: u8, output: &[u8]) {
+    write_bytes(&[answer]);
+    write_bytes(output);
+}
+
+fn no_such_vector() {
+    io::write_all(STDOUT_FILENO, b"no such vector\n");
+}
+
+// ---- the routines on blocks
+
+fn schedule(line: &[u8]) {
+    let mut key = [0u8; 16];
+    if operand(line, 0, &mut key) != 32 {
+        return no_such_vector();
+    }
+    write_bytes(&aes::expand_key(key));
+}
+
+fn subkeys(line: &[u8]) {
+    let mut key = [0u8; 16];
+    if operand(line, 0, &mut key) != 32 {
+        return no_such_vector();
+    }
+    let w = aes::expand_key(key);
+    write_bytes(&modes::subkey_1(&w));
+    write_bytes(&modes::subkey_2(&w));
+}
+
+// What takes two blocks: enciphering, deciphering, and the extension of a seed.
+fn of_two_blocks(routine: u8, line: &[u8]) {
+    let mut a = [0u8; 16];
+    let mut b = [0u8; 16];
+    if operand(line, 0, &mut a) != 32 {
+        return no_such_vector();
+    }
+    if operand(line, 1, &mut b) != 32 {
+        return no_such_vector();
+    }
+    match routine {
+        b'E' => write_bytes(&aes::encrypt(a, b)),
+        b'D' => write_bytes(&aes::decrypt(a, b)),
+        _ => write_bytes(&modes::extend(a, b)),
+    }
+}
+
+fn derived(line: &[u8]) {
+    let mut key = [0u8; 16];
+    if operand(line, 0, &mut key) != 32 {
+        return no_such_vector();
+    }
+    let name = match number(line, 1) {
+        1 => modes::Constant::KeyUpdateEnc,
+        2 => modes::Constant::KeyUpdateMac,
+        3 => modes::Constant::DebugKey,
+        4 => modes::Constant::PrngKey,
+        5 => modes::Constant::PrngSeedKey,
+        _ => return no_such_vector(),
+    };
+    write_bytes(&modes::derive(key, name));
+}
+
+// ---- the routines on lent buffers
+
+fn of_three_buffers(routine: u8, line: &[u8]) {
+    let mut first = [0u8; ROOM];
+    let mut second = [0u8; ROOM];
+    let mut third = [0u8; ROOM];
+    let first_size = operand(line, 0, &mut first) / 2;
+    let second_size = operand(line, 1, &mut second) / 2;
+    let third_size = operand(line, 2, &mut third) / 2;
+    let a = front(&first, first_size);
+    let b = front(&second, second_size);
+    let output = front_mut(&mut third, third_size);
+    let answer = match routine {
+        b'e' => modes::ecb_encrypt(a, b, output),
+        b'd' => modes::ecb_decrypt(a, b, output),
+        b'H' => modes::compress(a, b, output),
+        _ => modes::kdf(a, b, output),
+    };
+    write_outcome(answer, output);
+}
+
+fn cbc(routine: u8, line: &[u8]) {
+    let mut key = [0u8; ROOM];
+    let mut iv = [0u8; ROOM];
+    let mut text = [0u8; ROOM];
+    let mut room = [0u8; ROOM];
+    let key_size = operand(line, 0, &mut key) / 2;
+    let iv_size = operand(line, 1, &mut iv) / 2;
+    let text_size = operand(line, 2, &mut text) / 2;
+    let room_size = operand(line, 3, &mut room) / 2;
+    let k = front(&key, key_size);
+    let v = front(&iv, iv_size);
+    let input = front(&text, text_size);
+    let output = front_mut(&mut room, room_size);
+    let answer = if routine == b'C' {
+        modes::cbc_encrypt(k, v, input, output)
     } else {
-        io::write_all(STDOUT_FILENO, b"no such vector\n");
+        modes::cbc_decrypt(k, v, input, output)
+    };
+    write_outcome(answer, output);
+}
+
+// The key and the output are operands 0 and `last`, the message is lent.
+fn mac(line: &[u8], last: usize, message: &[u8]) {
+    let mut key = [0u8; ROOM];
+    let mut room = [0u8; ROOM];
+    let key_size = operand(line, 0, &mut key) / 2;
+    let room_size = operand(line, last, &mut room) / 2;
+    let output = front_mut(&mut room, room_size);
+    let answer = modes::cmac(front(&key, key_size), number(line, 1), message, output);
+    write_outcome(answer, output);
+}
+
+fn cmac(line: &[u8]) {
+    let mut message = [0u8; ROOM];
+    let size = operand(line, 2, &mut message) / 2;
+    mac(line, 3, front(&message, size));
+}
+
+// A message of one block again and again, as many as there is room for.
+fn repeated(block: [u8; 16]) -> [u8; 65600] {
+    let mut message = [0u8; 65600];
+    let mut i: usize = 0;
+    while i < 65600 {
+        message[i] = block[i % 16];
+        i += 1;
     }
+    message
+}
+
+fn cmac_repeated(line: &[u8]) {
+    let mut block = [0u8; 16];
+    let count = number(line, 3);
+    if operand(line, 2, &mut block) != 32 {
+        return no_such_vector();
+    }
+    if 4100 < count {
+        return no_such_vector();
+    }
+    let message = repeated(block);
+    mac(line, 4, front(&message, 16 * count as usize));
 }
 
 fn run_line(line: &[u8]) {
@@ -116,7 +304,19 @@ fn run_line(line: &[u8]) {
         io::write_all(STDOUT_FILENO, b"\n");
         return;
     }
-    answer(line[0], decode(line));
+    let routine = line[0];
+    let operands = &line[1..];
+    match routine {
+        b'K' => schedule(operands),
+        b'S' => subkeys(operands),
+        b'N' => derived(operands),
+        b'E' | b'D' | b'X' => of_two_blocks(routine, operands),
+        b'e' | b'd' | b'H' | b'F' => of_three_buffers(routine, operands),
+        b'C' | b'c' => cbc(routine, operands),
+        b'M' => cmac(operands),
+        b'R' => cmac_repeated(operands),
+        _ => no_such_vector(),
+    }
 }
 
 // Where the line that starts at `from` ends.

@@ -1,29 +1,26 @@
--- `vectors::block_at` writes within the block.
+-- `vectors::repeated` writes within the message.
 -- Assumes nothing.
 use mathlib.Core.Path.{_≡_}
 use Prim.Native.Nat.{_-_, _≤_}
 use lib.ListN.{length}
 use borrow.Author.Needs.{needs}
-use Rattle.vectors.proofs.block_at.Statement.{statement}
-use Rattle.vectors.proofs.block_at.Tie as tie
+use Rattle.vectors.proofs.repeated.Statement.{statement}
+use Rattle.vectors.proofs.repeated.Tie as tie
 
 abbrev Inv-loop : tie.InvT-loop
-Inv-loop bytes at b₀ i₀ b i = (i ≤ 16) × (length b ≡ 16)
+Inv-loop from message₀ i₀ message i = (i ≤ 65600) × (length message ≡ 65600)
 
 abbrev μ-loop : tie.MeasureT-loop
-μ-loop bytes at b₀ i₀ b i = 16 - i
+μ-loop from message₀ i₀ message i = 65600 - i
 
 loop-holds : tie.Need-loop-holds Inv-loop μ-loop
 loop-holds c = search needs
 
-add-byte-at : tie.Need-add-byte-at Inv-loop μ-loop
-add-byte-at c = search needs
+array-read-message : tie.Need-array-read-message Inv-loop μ-loop
+array-read-message c = search needs
 
-byte-at-requires : tie.Need-byte-at-requires Inv-loop μ-loop
-byte-at-requires c κs = search needs
-
-array-write-b : tie.Need-array-write-b Inv-loop μ-loop
-array-write-b c = search needs
+array-write-message : tie.Need-array-write-message Inv-loop μ-loop
+array-write-message c = search needs
 
 add-i : tie.Need-add-i Inv-loop μ-loop
 add-i c = search needs
@@ -37,16 +34,15 @@ loop-again c = search needs
 returns : tie.Need-returns Inv-loop μ-loop
 returns c = search needs
 
-pub block-at-spec : {M : Type 1} → statement M
-block-at-spec =
+pub repeated-spec : {M : Type 1} → statement M
+repeated-spec =
     tie.close
     (tie.spec
     Inv-loop
     μ-loop
     loop-holds
-    add-byte-at
-    byte-at-requires
-    array-write-b
+    array-read-message
+    array-write-message
     add-i
     loop-less
     loop-again
