@@ -76,6 +76,15 @@ def long_mac(take):
     return line, outcome(second.cmac(key, bits, block * count, out))
 
 
+def long_chain(take):
+    """Likewise of a text for CBC, of which the last block is seen."""
+    count = random.choice([0, 4095, 4096, 4097, random.randrange(4101)])
+    key, iv, block = take(16), take(16), take(16)
+    line = f"L {key.hex()} / {iv.hex()} / {block.hex()} / {count:04x}"
+    answer, output = second.cbc_encrypt(key, iv, block * count, block * count)
+    return line, outcome((answer, output[-16:]))
+
+
 def compression(take):
     return "H", [take(16), take(blocks()), take(16)], [], lambda s, t, out: outcome(second.compress(s, t, out))
 
@@ -175,7 +184,7 @@ def main():
             one_run(command, cases)
             count += len(cases)
             refused += sum(expected[0] in ("0c", "no such vector") for _, expected in cases)
-    cases = [long_mac(random_bytes) for _ in range(LONG)]
+    cases = [make(random_bytes) for make in (long_mac, long_chain) for _ in range(LONG)]
     one_run(command, cases)
     count += len(cases)
     print(f"compare: the proved program and the second one agree on {count} lines, {refused} of them refusals")

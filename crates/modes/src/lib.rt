@@ -134,7 +134,8 @@ fn encrypt_blocks(w: &[u8; 176], iv: [u8; 16], input: &[u8], output: &mut [u8])
     let mut previous = iv;
     let mut at: usize = 0;
     while at < input.len() {
-        let c = aes::encrypt_with(w, add(load(input, at), previous));
+        let p = load(input, at);
+        let c = aes::encrypt_with(w, add(p, previous));
         store(output, at, c);
         previous = c;
         at += 16;
@@ -148,9 +149,10 @@ fn decrypt_blocks(w: &[u8; 176], iv: [u8; 16], input: &[u8], output: &mut [u8])
     let mut previous = iv;
     let mut at: usize = 0;
     while at < input.len() {
-        let c = load(input, at);
-        store(output, at, add(aes::decrypt_with(w, c), previous));
-        previous = c;
+        let block = load(input, at);
+        let p = add(aes::decrypt_with(w, block), previous);
+        store(output, at, p);
+        previous = block;
         at += 16;
     }
 }

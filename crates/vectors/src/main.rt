@@ -18,6 +18,8 @@
 //     d key / block / output           ECB, back
 //     C key / iv / text / output       CBC
 //     c key / iv / text / output       CBC, back
+//     L key / iv / block / count       CBC of a text that is so many times the block; the output is as long, begins as the text,
+//                                      and only its last block is written
 //     M key / bits / message / output  CMAC of the first bits of the message, their number in up to 8 bytes
 //     R key / bits / block / count / output    the same, of a message that is so many times the block
 //     H state / text / output          the compression carried on from a state
@@ -257,6 +259,53 @@ fn cbc(routine: u8, line: &[u8]) {
     write_outcome(answer, output);
 }
 
+// A text of one block again and again, as many as there is room for.
+fn repeated(block: [u8; 16]) -> [u8; 65600] {
+    let mut text = [0u8; 65600];
+    let mut i: usize = 0;
+    while i < 65600 {
+        text[i] = block[i % 16];
+        i += 1;
+    }
+    text
+}
+
+// The last 16 bytes, or all.
+fn last_block(bytes: &[u8]) -> &[u8] {
+    if 16 < bytes.len() {
+        let at = bytes.len() - 16;
+        &bytes[at..]
+    } else {
+        bytes
+    }
+}
+
+fn cbc_repeated(line: &[u8]) {
+    let mut block = [0u8; 16];
+    let count = number(line, 3);
+    if operand(line, 2, &mut block) != 32 {
+        return no_such_vector();
+    }
+    if 4100 < count {
+        return no_such_vector();
+    }
+    let size = 16 * count as usize;
+    let mut key = [0u8; ROOM];
+    let mut iv = [0u8; ROOM];
+    let text = repeated(block);
+    let mut room = repeated(block);
+    let key_size = operand(line, 0, &mut key) / 2;
+    let iv_size = operand(line, 1, &mut iv) / 2;
+    let output = front_mut(&mut room, size);
+    let answer = modes::cbc_encrypt(
+        front(&key, key_size),
+        front(&iv, iv_size),
+        front(&text, size),
+        output,
+    );
+    write_outcome(answer, last_block(output));
+}
+
 // The key and the output are operands 0 and `last`, the message is lent.
 fn mac(line: &[u8], last: usize, message: &[u8]) {
     let mut key = [0u8; ROOM];
@@ -272,17 +321,6 @@ fn cmac(line: &[u8]) {
     let mut message = [0u8; ROOM];
     let size = operand(line, 2, &mut message) / 2;
     mac(line, 3, front(&message, size));
-}
-
-// A message of one block again and again, as many as there is room for.
-fn repeated(block: [u8; 16]) -> [u8; 65600] {
-    let mut message = [0u8; 65600];
-    let mut i: usize = 0;
-    while i < 65600 {
-        message[i] = block[i % 16];
-        i += 1;
-    }
-    message
 }
 
 fn cmac_repeated(line: &[u8]) {
@@ -313,6 +351,7 @@ fn run_line(line: &[u8]) {
         b'E' | b'D' | b'X' => of_two_blocks(routine, operands),
         b'e' | b'd' | b'H' | b'F' => of_three_buffers(routine, operands),
         b'C' | b'c' => cbc(routine, operands),
+        b'L' => cbc_repeated(operands),
         b'M' => cmac(operands),
         b'R' => cmac_repeated(operands),
         _ => no_such_vector(),

@@ -43,14 +43,14 @@ loop-less c = search needs
 
 loop-again : tie.Need-loop-again Inv-loop μ-loop
 loop-again c = let s = c .before .before in
-    let e = s .before in
-    let l = e .before .before .before .before .before in
+    let e = s .before .before in
+    let l = e .before .before .before .before in
     let a = l .before .before .before .args in
     let inv = invCipherWith (a .w .now) in
-    let y : e .add .result ≡ unchained inv (l .loop .previous) (e .before .before .before .load .result)
+    let y : e .add .result ≡ unchained inv (l .loop .previous) (e .before .before .load .result)
     = e .add .ensures ∙ ap (λ (p : List ℕ). p ⊕ l .loop .previous) (e .before .decrypt-with .ensures) in
-    run-turn (unchained inv) itself (a .input .now) _ (l .loop .previous) _ (l .loop .output) _ (e .before .before .before .load .result) (e .add .result) (l .loop .at)
-    (search needs) (l .loop .inv) (e .before .before .before .load .ensures) y refl (omega arith) (s .store .ensures)
+    run-turn (unchained inv) itself (a .input .now) _ (l .loop .previous) _ (l .loop .output) _ (e .before .before .load .result) (e .add .result) (l .loop .at)
+    (search needs) (l .loop .inv) (e .before .before .load .ensures) y refl (omega arith) (s .store .ensures)
 
 same-length : tie.Need-same-length Inv-loop μ-loop
 same-length c = search needs

@@ -1,4 +1,4 @@
--- `vectors::repeated` writes within the message.
+-- `vectors::repeated` writes within the text.
 -- Assumes nothing.
 use mathlib.Core.Path.{_≡_}
 use Prim.Native.Nat.{_-_, _≤_}
@@ -8,19 +8,19 @@ use Rattle.vectors.proofs.repeated.Statement.{statement}
 use Rattle.vectors.proofs.repeated.Tie as tie
 
 abbrev Inv-loop : tie.InvT-loop
-Inv-loop from message₀ i₀ message i = (i ≤ 65600) × (length message ≡ 65600)
+Inv-loop block text₀ i₀ text i = (i ≤ 65600) × (length text ≡ 65600)
 
 abbrev μ-loop : tie.MeasureT-loop
-μ-loop from message₀ i₀ message i = 65600 - i
+μ-loop block text₀ i₀ text i = 65600 - i
 
 loop-holds : tie.Need-loop-holds Inv-loop μ-loop
 loop-holds c = search needs
 
-array-read-message : tie.Need-array-read-message Inv-loop μ-loop
-array-read-message c = search needs
+array-read-text : tie.Need-array-read-text Inv-loop μ-loop
+array-read-text c = search needs
 
-array-write-message : tie.Need-array-write-message Inv-loop μ-loop
-array-write-message c = search needs
+array-write-text : tie.Need-array-write-text Inv-loop μ-loop
+array-write-text c = search needs
 
 add-i : tie.Need-add-i Inv-loop μ-loop
 add-i c = search needs
@@ -41,8 +41,8 @@ repeated-spec =
     Inv-loop
     μ-loop
     loop-holds
-    array-read-message
-    array-write-message
+    array-read-text
+    array-write-text
     add-i
     loop-less
     loop-again
