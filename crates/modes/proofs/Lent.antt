@@ -10,7 +10,7 @@ use lib.Dec.{eqb, leb}
 use lib.ListN.{length, take, drop}
 use lib.Seq.{take-all, paste}
 use Rattle.laws.proofs.Paste.{pasted-over}
-use Rattle.modes.specs.Answer.{noError, generalError, answer, ecbLengths, cbcLengths, cmacLengths, compressLengths}
+use Rattle.modes.specs.Answer.{noError, generalError, answer, threeBlocks, cbcLengths, cmacLengths, compressLengths}
 use Rattle.modes.specs.Cmac.{blockCount}
 
 -- ---- the tests
@@ -18,11 +18,11 @@ both : (a b : Bool) → (a && b) ≡ true → (a ≡ true) × (b ≡ true)
 both true b h = (refl, h)
 both false b h = absurd (false≢true h)
 
-pub ecb-facts : (key input output : ℕ) → ecbLengths key input output ≡ true → (key ≡ 16) × (input ≡ 16) × (output ≡ 16)
-unfolding ecbLengths
-ecb-facts key input output h =
-    let a = both (eqb key 16) _ h in
-    let b = both (eqb input 16) (eqb output 16) (a .1) in
+pub three-blocks-facts : (first second third : ℕ) → threeBlocks first second third ≡ true → (first ≡ 16) × (second ≡ 16) × (third ≡ 16)
+unfolding threeBlocks
+three-blocks-facts first second third h =
+    let a = both (eqb first 16) _ h in
+    let b = both (eqb second 16) (eqb third 16) (a .1) in
     (eqb-true _ _ (a .0), eqb-true _ _ (b .0), eqb-true _ _ (b .1))
 
 pub cbc-facts : (key iv input output : ℕ) → cbcLengths key iv input output ≡ true

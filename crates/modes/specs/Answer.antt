@@ -1,4 +1,4 @@
--- The answers that these routines give, and the lengths that each of them takes: 01, "Numbers of the answers", "Using a key".
+-- The answers that these routines give, and the lengths that each of them takes.
 -- Assumes nothing.
 use mathlib.Core.Bool.{Bool, _&&_, cond}
 use Prim.Native.Nat.{ℕ, _*_, _%_}
@@ -15,9 +15,9 @@ generalError = 12
 unfoldable pub answer : Bool → ℕ
 answer right = cond right noError generalError
 
--- ECB: 16 bytes in and out
-unfoldable pub ecbLengths : ℕ → ℕ → ℕ → Bool
-ecbLengths key input output = eqb key 16 && (eqb input 16 && eqb output 16)
+-- ECB: key, in and out 16 bytes each; KDF: key, constant and out likewise
+unfoldable pub threeBlocks : ℕ → ℕ → ℕ → Bool
+threeBlocks first second third = eqb first 16 && (eqb second 16 && eqb third 16)
 
 -- CBC: 1 to 4,096 blocks, IV of 16 bytes, output as long as input
 unfoldable pub cbcLengths : ℕ → ℕ → ℕ → ℕ → Bool
@@ -32,5 +32,3 @@ cmacLengths key bits message output =
 -- compression: from an output of 16 bytes, any number of whole blocks, output 16 bytes
 unfoldable pub compressLengths : ℕ → ℕ → ℕ → Bool
 compressLengths out text output = eqb out 16 && (eqb (text % 16) 0 && eqb output 16)
-
--- KDF: three times 16 bytes, as for ECB

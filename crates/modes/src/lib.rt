@@ -8,14 +8,14 @@ mod constants;
 ghost use mathlib.Core.Path.{_≡_};
 ghost use mathlib.Core.Bool.{cond};
 ghost use mathlib.Core.List.{_++_, foldl};
-ghost use Prim.Native.Nat.{_+_, _*_, _/_, _%_, _≤_, _<_};
+ghost use Prim.Native.Nat.{_+_, _*_, _%_, _≤_, _<_};
 ghost use lib.ListN.{length, take, drop};
 ghost use lib.Seq.{paste};
 ghost use Rattle.aes.specs.Cipher.{cipherWith, invCipherWith, cipher, invCipher};
-ghost use Rattle.modes.specs.Answer.{answer, ecbLengths, cbcLengths, cmacLengths, compressLengths};
+ghost use Rattle.modes.specs.Answer.{answer, threeBlocks, cbcLengths, cmacLengths, compressLengths};
 ghost use Rattle.modes.specs.Blocks.{_⊕_, zeroBlock, blocks};
 ghost use Rattle.modes.specs.Cbc.{chained, cbcEncrypt, cbcDecrypt};
-ghost use Rattle.modes.specs.Cmac.{shiftLeft, r128, double, k1, k2, cut, padded, blockCount, lastBlock, cmac};
+ghost use Rattle.modes.specs.Cmac.{shiftLeft, double, k1, k2, cut, padded, blockCount, lastBlock, cmac};
 ghost use Rattle.modes.specs.Compression.{compressed, compressFrom, compress, kdf};
 ghost use Rattle.modes.specs.Constants.{constantOf};
 
@@ -64,26 +64,26 @@ fn add(a: [u8; 16], b: [u8; 16]) -> [u8; 16]
     sum
 }
 
-// ---- ECB, one block
-
-// Key derivation takes these lengths too.
-fn ecb_lengths(key: usize, input: usize, output: usize) -> bool
-    ensures { λ r. ⌜ r ≡ ecbLengths key input output ⌝ }
+// Three buffers of a block each: ECB and the key derivation take no others.
+fn three_blocks(first: usize, second: usize, third: usize) -> bool
+    ensures { λ r. ⌜ r ≡ threeBlocks first second third ⌝ }
 {
-    if key != 16 {
+    if first != 16 {
         return false;
     }
-    if input != 16 {
+    if second != 16 {
         return false;
     }
-    output == 16
+    third == 16
 }
 
+// ---- ECB, one block
+
 pub fn ecb_encrypt(key: &[u8], input: &[u8], output: &mut [u8]) -> u8
-    ensures { λ r. ⌜ r ≡ answer (ecbLengths (length (now (key .entry))) (length (now (input .entry))) (length (now (output .entry)))) ⌝ }
-    ensures { λ _. ⌜ now (output .exit) ≡ cond (ecbLengths (length (now (key .entry))) (length (now (input .entry))) (length (now (output .entry)))) (cipher (now (key .entry)) (now (input .entry))) (now (output .entry)) ⌝ }
+    ensures { λ r. ⌜ r ≡ answer (threeBlocks (length (now (key .entry))) (length (now (input .entry))) (length (now (output .entry)))) ⌝ }
+    ensures { λ _. ⌜ now (output .exit) ≡ cond (threeBlocks (length (now (key .entry))) (length (now (input .entry))) (length (now (output .entry)))) (cipher (now (key .entry)) (now (input .entry))) (now (output .entry)) ⌝ }
 {
-    if !ecb_lengths(key.len(), input.len(), output.len()) {
+    if !three_blocks(key.len(), input.len(), output.len()) {
         return GENERAL_ERROR;
     }
     let result = aes::encrypt(load(key, 0), load(input, 0));
@@ -92,10 +92,10 @@ pub fn ecb_encrypt(key: &[u8], input: &[u8], output: &mut [u8]) -> u8
 }
 
 pub fn ecb_decrypt(key: &[u8], input: &[u8], output: &mut [u8]) -> u8
-    ensures { λ r. ⌜ r ≡ answer (ecbLengths (length (now (key .entry))) (length (now (input .entry))) (length (now (output .entry)))) ⌝ }
-    ensures { λ _. ⌜ now (output .exit) ≡ cond (ecbLengths (length (now (key .entry))) (length (now (input .entry))) (length (now (output .entry)))) (invCipher (now (key .entry)) (now (input .entry))) (now (output .entry)) ⌝ }
+    ensures { λ r. ⌜ r ≡ answer (threeBlocks (length (now (key .entry))) (length (now (input .entry))) (length (now (output .entry)))) ⌝ }
+    ensures { λ _. ⌜ now (output .exit) ≡ cond (threeBlocks (length (now (key .entry))) (length (now (input .entry))) (length (now (output .entry)))) (invCipher (now (key .entry)) (now (input .entry))) (now (output .entry)) ⌝ }
 {
-    if !ecb_lengths(key.len(), input.len(), output.len()) {
+    if !three_blocks(key.len(), input.len(), output.len()) {
         return GENERAL_ERROR;
     }
     let result = aes::decrypt(load(key, 0), load(input, 0));
@@ -248,7 +248,7 @@ fn pad(r: usize, x: [u8; 16]) -> [u8; 16]
     p
 }
 
-// The last block of a message, of which r bits count, with its subkey.
+// What stands for the last block of a message, r bits of which count: complete with K1, or padded with K2.
 fn last_block(w: &[u8; 176], r: usize, x: [u8; 16]) -> [u8; 16]
     requires { ⌜ r ≤ 128 ⌝ }
     ensures { λ m. ⌜ m ≡ lastBlock (cipherWith (now (w .entry))) r x ⌝ }
@@ -376,10 +376,10 @@ fn compress_two(a: [u8; 16], b: [u8; 16]) -> [u8; 16]
 
 // The key that is derived from a key and any constant.
 pub fn kdf(key: &[u8], constant: &[u8], output: &mut [u8]) -> u8
-    ensures { λ r. ⌜ r ≡ answer (ecbLengths (length (now (key .entry))) (length (now (constant .entry))) (length (now (output .entry)))) ⌝ }
-    ensures { λ _. ⌜ now (output .exit) ≡ cond (ecbLengths (length (now (key .entry))) (length (now (constant .entry))) (length (now (output .entry)))) (kdf (now (key .entry)) (now (constant .entry))) (now (output .entry)) ⌝ }
+    ensures { λ r. ⌜ r ≡ answer (threeBlocks (length (now (key .entry))) (length (now (constant .entry))) (length (now (output .entry)))) ⌝ }
+    ensures { λ _. ⌜ now (output .exit) ≡ cond (threeBlocks (length (now (key .entry))) (length (now (constant .entry))) (length (now (output .entry)))) (kdf (now (key .entry)) (now (constant .entry))) (now (output .entry)) ⌝ }
 {
-    if !ecb_lengths(key.len(), constant.len(), output.len()) {
+    if !three_blocks(key.len(), constant.len(), output.len()) {
         return GENERAL_ERROR;
     }
     let result = compress_two(load(key, 0), load(constant, 0));

@@ -7,32 +7,32 @@ use lib.ListN.{length}
 use borrow.Author.Needs.{needs}
 use borrow.Author.Tests.{not-true, not-false}
 use Rattle.aes.specs.Cipher.{invCipher}
-use Rattle.modes.proofs.Lent.{ecb-facts, loaded, stored, refused, done}
-use Rattle.modes.specs.Answer.{ecbLengths}
+use Rattle.modes.proofs.Lent.{three-blocks-facts, loaded, stored, refused, done}
+use Rattle.modes.specs.Answer.{threeBlocks}
 use Rattle.modes.proofs.ecb_decrypt.Statement.{statement}
 use Rattle.modes.proofs.ecb_decrypt.Tie as tie
 
 -- past the test the lengths are right
-right : (c : tie.Else1) → let a = c .before .before .before .before .before .args in ecbLengths (length (a .key .now)) (length (a .input .now)) (length (a .output .now)) ≡ true
-right c = sym (c .before .ecb-lengths .ensures) ∙ not-false _ (c .if1 .left)
+right : (c : tie.Else1) → let a = c .before .before .before .before .before .args in threeBlocks (length (a .key .now)) (length (a .input .now)) (length (a .output .now)) ≡ true
+right c = sym (c .before .three-blocks .ensures) ∙ not-false _ (c .if1 .left)
 
-ecb-lengths-requires : tie.Need-ecb-lengths-requires
-ecb-lengths-requires c κs = search needs
+three-blocks-requires : tie.Need-three-blocks-requires
+three-blocks-requires c κs = search needs
 
 returns : tie.Need-returns
-returns c = refused _ _ _ (sym (c .before .ecb-lengths .ensures) ∙ not-true _ (c .if1 .taken))
+returns c = refused _ _ _ (sym (c .before .three-blocks .ensures) ∙ not-true _ (c .if1 .taken))
 
 load-requires : tie.Need-load-requires
-load-requires c κs = omega (arith, ecb-facts _ _ _ (right c))
+load-requires c κs = omega (arith, three-blocks-facts _ _ _ (right c))
 
 load-requires-2 : tie.Need-load-requires-2
-load-requires-2 c κs = omega (arith, ecb-facts _ _ _ (right (c .before)))
+load-requires-2 c κs = omega (arith, three-blocks-facts _ _ _ (right (c .before)))
 
 decrypt-requires : tie.Need-decrypt-requires
 decrypt-requires c κs = search needs
 
 store-requires : tie.Need-store-requires
-store-requires c κs = omega (arith, ecb-facts _ _ _ (right (c .before .before .before .before)))
+store-requires c κs = omega (arith, three-blocks-facts _ _ _ (right (c .before .before .before .before)))
 
 same-length : tie.Need-same-length
 same-length c = search needs
@@ -42,7 +42,7 @@ returns-2 c = let s = c .before .before in
     let e = s .before .before in
     let o = e .before .before .before in
     let a = o .before .before .before .before .before .args in
-    let f = ecb-facts _ _ _ (right o) in
+    let f = three-blocks-facts _ _ _ (right o) in
     let key = loaded (a .key .now) _ (e .before .before .load .ensures) (f .0) in
     let input = loaded (a .input .now) _ (e .before .load2 .ensures) (f .1) in
     done _ _ _ _ (right o) (stored (a .output .now) _ _ (s .store .ensures) (f .2) (omega arith) ∙ e .decrypt .ensures ∙ ap₂ invCipher key input)
@@ -51,7 +51,7 @@ pub ecb-decrypt-spec : {M : Type 1} → statement M
 ecb-decrypt-spec =
     tie.close
     (tie.spec
-    ecb-lengths-requires
+    three-blocks-requires
     returns
     load-requires
     load-requires-2
