@@ -1,12 +1,8 @@
 // What `make bench` calls from C: the engine on whole arrays, with no length to test, and the modes on lent buffers.
 ghost use mathlib.Core.Path.{_≡_};
-ghost use mathlib.Core.Bool.{cond};
-ghost use lib.ListN.{length};
 ghost use Rattle.aes.specs.Schedule.{keyExpansion};
-ghost use Rattle.aes.specs.Cipher.{cipherWith, invCipherWith, cipher, invCipher};
-ghost use Rattle.modes.specs.Answer.{answer, cbcLengths, cmacLengths};
-ghost use Rattle.modes.specs.Cbc.{cbcEncrypt, cbcDecrypt};
-ghost use Rattle.modes.specs.Cmac.{cmac};
+ghost use Rattle.aes.specs.Cipher.{cipherWith, invCipherWith, cipher};
+ghost use Rattle.modes.specs.Routines.{cbcEncryption, cbcDecryption, authentication};
 
 #[no_mangle]
 pub extern "C" fn bench_schedule(key: &[u8; 16], w: &mut [u8; 176])
@@ -38,24 +34,24 @@ pub extern "C" fn bench_encrypt_keyed(key: &[u8; 16], block: &[u8; 16], out: &mu
 
 #[no_mangle]
 pub extern "C" fn bench_cbc_encrypt(key: &[u8], iv: &[u8], input: &[u8], output: &mut [u8]) -> u8
-    ensures { λ r. ⌜ r ≡ answer (cbcLengths (length (now (key .entry))) (length (now (iv .entry))) (length (now (input .entry))) (length (now (output .entry)))) ⌝ }
-    ensures { λ _. ⌜ now (output .exit) ≡ cond (cbcLengths (length (now (key .entry))) (length (now (iv .entry))) (length (now (input .entry))) (length (now (output .entry)))) (cbcEncrypt (cipher (now (key .entry))) (now (iv .entry)) (now (input .entry))) (now (output .entry)) ⌝ }
+    ensures { λ r. ⌜ r ≡ cbcEncryption (now (key .entry)) (now (iv .entry)) (now (input .entry)) (now (output .entry)) .answer ⌝ }
+    ensures { λ _. ⌜ now (output .exit) ≡ cbcEncryption (now (key .entry)) (now (iv .entry)) (now (input .entry)) (now (output .entry)) .output ⌝ }
 {
     modes::cbc_encrypt(key, iv, input, output)
 }
 
 #[no_mangle]
 pub extern "C" fn bench_cbc_decrypt(key: &[u8], iv: &[u8], input: &[u8], output: &mut [u8]) -> u8
-    ensures { λ r. ⌜ r ≡ answer (cbcLengths (length (now (key .entry))) (length (now (iv .entry))) (length (now (input .entry))) (length (now (output .entry)))) ⌝ }
-    ensures { λ _. ⌜ now (output .exit) ≡ cond (cbcLengths (length (now (key .entry))) (length (now (iv .entry))) (length (now (input .entry))) (length (now (output .entry)))) (cbcDecrypt (invCipher (now (key .entry))) (now (iv .entry)) (now (input .entry))) (now (output .entry)) ⌝ }
+    ensures { λ r. ⌜ r ≡ cbcDecryption (now (key .entry)) (now (iv .entry)) (now (input .entry)) (now (output .entry)) .answer ⌝ }
+    ensures { λ _. ⌜ now (output .exit) ≡ cbcDecryption (now (key .entry)) (now (iv .entry)) (now (input .entry)) (now (output .entry)) .output ⌝ }
 {
     modes::cbc_decrypt(key, iv, input, output)
 }
 
 #[no_mangle]
 pub extern "C" fn bench_cmac(key: &[u8], bits: u64, message: &[u8], output: &mut [u8]) -> u8
-    ensures { λ r. ⌜ r ≡ answer (cmacLengths (length (now (key .entry))) bits (length (now (message .entry))) (length (now (output .entry)))) ⌝ }
-    ensures { λ _. ⌜ now (output .exit) ≡ cond (cmacLengths (length (now (key .entry))) bits (length (now (message .entry))) (length (now (output .entry)))) (cmac (cipher (now (key .entry))) bits (now (message .entry))) (now (output .entry)) ⌝ }
+    ensures { λ r. ⌜ r ≡ authentication (now (key .entry)) bits (now (message .entry)) (now (output .entry)) .answer ⌝ }
+    ensures { λ _. ⌜ now (output .exit) ≡ authentication (now (key .entry)) bits (now (message .entry)) (now (output .entry)) .output ⌝ }
 {
     modes::cmac(key, bits, message, output)
 }

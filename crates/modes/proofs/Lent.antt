@@ -1,8 +1,9 @@
 -- Lent buffers: what a test of their lengths tells, a whole one loaded or stored, and the two outcomes of a routine.
 -- Assumes nothing.
 use mathlib.Core.Path.{_≡_, refl, _∙_}
-use mathlib.Core.Bool.{Bool, true, false, cond, _&&_, false≢true}
+use mathlib.Core.Bool.{Bool, true, false, _&&_, false≢true}
 use mathlib.Core.List.{List}
+use mathlib.Core.Logic.{_⊎_, inl, inr}
 use Prim.Native.Nat.{ℕ, _*_, _%_, _≤_}
 use native.Mathlib.Omega.{arith}
 use borrow.Author.Tests.{eqb-true, leb-true}
@@ -10,7 +11,7 @@ use lib.Dec.{eqb, leb}
 use lib.ListN.{length, take, drop}
 use lib.Seq.{take-all, paste}
 use Rattle.laws.proofs.Paste.{pasted-over}
-use Rattle.modes.specs.Answer.{noError, generalError, answer, threeBlocks, cbcLengths, cmacLengths, compressLengths}
+use Rattle.modes.specs.Answer.{noError, generalError, outcome, threeBlocks, cbcLengths, cmacLengths, compressLengths}
 use Rattle.modes.specs.Cmac.{blockCount}
 
 -- ---- the tests
@@ -59,13 +60,21 @@ loaded buffer block e long = e ∙ take-all 16 buffer (omega arith)
 pub stored : (buffer block after : List ℕ) → after ≡ paste buffer 0 block 16 → length buffer ≡ 16 → length block ≡ 16 → after ≡ block
 stored buffer block after e long long′ = e ∙ pasted-over buffer block 16 long long′
 
--- ---- the outcomes: the answer, and what a lent buffer then holds
+-- ---- the two outcomes
 pub refused : (right : Bool) (result before : List ℕ) → right ≡ false
-    → (generalError ≡ answer right) × (before ≡ cond right result before)
-unfolding answer
+    → (generalError ≡ outcome right result before .answer) × (before ≡ outcome right result before .output)
+unfolding outcome
 refused right result before e = (rw e, rw e)
 
 pub done : (right : Bool) (after result before : List ℕ) → right ≡ true → after ≡ result
-    → (noError ≡ answer right) × (after ≡ cond right result before)
-unfolding answer
+    → (noError ≡ outcome right result before .answer) × (after ≡ outcome right result before .output)
+unfolding outcome
 done right after result before e h = (rw e, rw e h)
+
+-- there is no third: an answer is 0, or it is 12 and the output is as it was
+pub answered : (right : Bool) (result before : List ℕ)
+    → (outcome right result before .answer ≡ noError)
+    ⊎ ((outcome right result before .answer ≡ generalError) × (outcome right result before .output ≡ before))
+unfolding outcome
+answered true result before = inl refl
+answered false result before = inr (refl, refl)

@@ -1,9 +1,14 @@
--- The answers that these routines give, and the lengths that each of them takes.
+-- What a routine on lent buffers leaves: its answer, and its output. And the lengths that each routine takes.
 -- Assumes nothing.
 use mathlib.Core.Bool.{Bool, _&&_, cond}
+use mathlib.Core.List.{List}
 use Prim.Native.Nat.{ℕ, _*_, _%_}
 use lib.Dec.{eqb, leb}
 use Rattle.modes.specs.Cmac.{blockCount}
+
+pub record Outcome : Type 0 where
+  pub answer : ℕ
+  pub output : List ℕ
 
 abbrev pub noError : ℕ
 noError = 0
@@ -11,9 +16,9 @@ noError = 0
 abbrev pub generalError : ℕ
 generalError = 12
 
--- done where the lengths are right
-unfoldable pub answer : Bool → ℕ
-answer right = cond right noError generalError
+-- where the lengths are right it is done, and the output holds the result; where not, it is refused, and the output stays
+unfoldable pub outcome : Bool → List ℕ → List ℕ → Outcome
+outcome right result output = record { answer = cond right noError generalError; output = cond right result output }
 
 -- ECB: key, in and out 16 bytes each; KDF: key, constant and out likewise
 unfoldable pub threeBlocks : ℕ → ℕ → ℕ → Bool

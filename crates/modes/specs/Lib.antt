@@ -5,3 +5,4 @@ pub mod Cmac
 pub mod Compression
 pub mod Constants
 pub mod Number
+pub mod Routines

@@ -6,18 +6,18 @@
 mod constants;
 
 ghost use mathlib.Core.Path.{_≡_};
-ghost use mathlib.Core.Bool.{cond};
 ghost use mathlib.Core.List.{_++_, foldl};
 ghost use Prim.Native.Nat.{_+_, _*_, _%_, _≤_, _<_};
 ghost use lib.ListN.{length, take, drop};
 ghost use lib.Seq.{paste};
-ghost use Rattle.aes.specs.Cipher.{cipherWith, invCipherWith, cipher, invCipher};
-ghost use Rattle.modes.specs.Answer.{answer, threeBlocks, cbcLengths, cmacLengths, compressLengths};
+ghost use Rattle.aes.specs.Cipher.{cipherWith, invCipherWith};
+ghost use Rattle.modes.specs.Answer.{threeBlocks, cbcLengths, cmacLengths, compressLengths};
 ghost use Rattle.modes.specs.Blocks.{_⊕_, zeroBlock, blocks};
 ghost use Rattle.modes.specs.Cbc.{chained, cbcEncrypt, cbcDecrypt};
 ghost use Rattle.modes.specs.Cmac.{shiftLeft, double, k1, k2, cut, padded, blockCount, lastBlock, cmac};
 ghost use Rattle.modes.specs.Compression.{compressed, compressFrom, compress, kdf};
 ghost use Rattle.modes.specs.Constants.{constantOf};
+ghost use Rattle.modes.specs.Routines.{ecbEncryption, ecbDecryption, cbcEncryption, cbcDecryption, authentication, compression, derivation};
 
 // The answers' numbers.
 const NO_ERROR: u8 = 0;
@@ -80,8 +80,8 @@ fn three_blocks(first: usize, second: usize, third: usize) -> bool
 // ---- ECB, one block
 
 pub fn ecb_encrypt(key: &[u8], input: &[u8], output: &mut [u8]) -> u8
-    ensures { λ r. ⌜ r ≡ answer (threeBlocks (length (now (key .entry))) (length (now (input .entry))) (length (now (output .entry)))) ⌝ }
-    ensures { λ _. ⌜ now (output .exit) ≡ cond (threeBlocks (length (now (key .entry))) (length (now (input .entry))) (length (now (output .entry)))) (cipher (now (key .entry)) (now (input .entry))) (now (output .entry)) ⌝ }
+    ensures { λ r. ⌜ r ≡ ecbEncryption (now (key .entry)) (now (input .entry)) (now (output .entry)) .answer ⌝ }
+    ensures { λ _. ⌜ now (output .exit) ≡ ecbEncryption (now (key .entry)) (now (input .entry)) (now (output .entry)) .output ⌝ }
 {
     if !three_blocks(key.len(), input.len(), output.len()) {
         return GENERAL_ERROR;
@@ -92,8 +92,8 @@ pub fn ecb_encrypt(key: &[u8], input: &[u8], output: &mut [u8]) -> u8
 }
 
 pub fn ecb_decrypt(key: &[u8], input: &[u8], output: &mut [u8]) -> u8
-    ensures { λ r. ⌜ r ≡ answer (threeBlocks (length (now (key .entry))) (length (now (input .entry))) (length (now (output .entry)))) ⌝ }
-    ensures { λ _. ⌜ now (output .exit) ≡ cond (threeBlocks (length (now (key .entry))) (length (now (input .entry))) (length (now (output .entry)))) (invCipher (now (key .entry)) (now (input .entry))) (now (output .entry)) ⌝ }
+    ensures { λ r. ⌜ r ≡ ecbDecryption (now (key .entry)) (now (input .entry)) (now (output .entry)) .answer ⌝ }
+    ensures { λ _. ⌜ now (output .exit) ≡ ecbDecryption (now (key .entry)) (now (input .entry)) (now (output .entry)) .output ⌝ }
 {
     if !three_blocks(key.len(), input.len(), output.len()) {
         return GENERAL_ERROR;
@@ -158,8 +158,8 @@ fn decrypt_blocks(w: &[u8; 176], iv: [u8; 16], input: &[u8], output: &mut [u8])
 }
 
 pub fn cbc_encrypt(key: &[u8], iv: &[u8], input: &[u8], output: &mut [u8]) -> u8
-    ensures { λ r. ⌜ r ≡ answer (cbcLengths (length (now (key .entry))) (length (now (iv .entry))) (length (now (input .entry))) (length (now (output .entry)))) ⌝ }
-    ensures { λ _. ⌜ now (output .exit) ≡ cond (cbcLengths (length (now (key .entry))) (length (now (iv .entry))) (length (now (input .entry))) (length (now (output .entry)))) (cbcEncrypt (cipher (now (key .entry))) (now (iv .entry)) (now (input .entry))) (now (output .entry)) ⌝ }
+    ensures { λ r. ⌜ r ≡ cbcEncryption (now (key .entry)) (now (iv .entry)) (now (input .entry)) (now (output .entry)) .answer ⌝ }
+    ensures { λ _. ⌜ now (output .exit) ≡ cbcEncryption (now (key .entry)) (now (iv .entry)) (now (input .entry)) (now (output .entry)) .output ⌝ }
 {
     if !cbc_lengths(key.len(), iv.len(), input.len(), output.len()) {
         return GENERAL_ERROR;
@@ -170,8 +170,8 @@ pub fn cbc_encrypt(key: &[u8], iv: &[u8], input: &[u8], output: &mut [u8]) -> u8
 }
 
 pub fn cbc_decrypt(key: &[u8], iv: &[u8], input: &[u8], output: &mut [u8]) -> u8
-    ensures { λ r. ⌜ r ≡ answer (cbcLengths (length (now (key .entry))) (length (now (iv .entry))) (length (now (input .entry))) (length (now (output .entry)))) ⌝ }
-    ensures { λ _. ⌜ now (output .exit) ≡ cond (cbcLengths (length (now (key .entry))) (length (now (iv .entry))) (length (now (input .entry))) (length (now (output .entry)))) (cbcDecrypt (invCipher (now (key .entry))) (now (iv .entry)) (now (input .entry))) (now (output .entry)) ⌝ }
+    ensures { λ r. ⌜ r ≡ cbcDecryption (now (key .entry)) (now (iv .entry)) (now (input .entry)) (now (output .entry)) .answer ⌝ }
+    ensures { λ _. ⌜ now (output .exit) ≡ cbcDecryption (now (key .entry)) (now (iv .entry)) (now (input .entry)) (now (output .entry)) .output ⌝ }
 {
     if !cbc_lengths(key.len(), iv.len(), input.len(), output.len()) {
         return GENERAL_ERROR;
@@ -308,8 +308,8 @@ fn mac(w: &[u8; 176], bits: u64, message: &[u8]) -> [u8; 16]
 }
 
 pub fn cmac(key: &[u8], bits: u64, message: &[u8], output: &mut [u8]) -> u8
-    ensures { λ r. ⌜ r ≡ answer (cmacLengths (length (now (key .entry))) bits (length (now (message .entry))) (length (now (output .entry)))) ⌝ }
-    ensures { λ _. ⌜ now (output .exit) ≡ cond (cmacLengths (length (now (key .entry))) bits (length (now (message .entry))) (length (now (output .entry)))) (cmac (cipher (now (key .entry))) bits (now (message .entry))) (now (output .entry)) ⌝ }
+    ensures { λ r. ⌜ r ≡ authentication (now (key .entry)) bits (now (message .entry)) (now (output .entry)) .answer ⌝ }
+    ensures { λ _. ⌜ now (output .exit) ≡ authentication (now (key .entry)) bits (now (message .entry)) (now (output .entry)) .output ⌝ }
 {
     if !cmac_lengths(key.len(), bits, message.len(), output.len()) {
         return GENERAL_ERROR;
@@ -356,8 +356,8 @@ fn compress_lengths(out: usize, text: usize, output: usize) -> bool
 
 // The compression of a text in whole blocks, carried on from an output; from zero, it is the compression of the text.
 pub fn compress(out: &[u8], text: &[u8], output: &mut [u8]) -> u8
-    ensures { λ r. ⌜ r ≡ answer (compressLengths (length (now (out .entry))) (length (now (text .entry))) (length (now (output .entry)))) ⌝ }
-    ensures { λ _. ⌜ now (output .exit) ≡ cond (compressLengths (length (now (out .entry))) (length (now (text .entry))) (length (now (output .entry)))) (compressFrom (now (out .entry)) (now (text .entry))) (now (output .entry)) ⌝ }
+    ensures { λ r. ⌜ r ≡ compression (now (out .entry)) (now (text .entry)) (now (output .entry)) .answer ⌝ }
+    ensures { λ _. ⌜ now (output .exit) ≡ compression (now (out .entry)) (now (text .entry)) (now (output .entry)) .output ⌝ }
 {
     if !compress_lengths(out.len(), text.len(), output.len()) {
         return GENERAL_ERROR;
@@ -376,8 +376,8 @@ fn compress_two(a: [u8; 16], b: [u8; 16]) -> [u8; 16]
 
 // The key that is derived from a key and any constant.
 pub fn kdf(key: &[u8], constant: &[u8], output: &mut [u8]) -> u8
-    ensures { λ r. ⌜ r ≡ answer (threeBlocks (length (now (key .entry))) (length (now (constant .entry))) (length (now (output .entry)))) ⌝ }
-    ensures { λ _. ⌜ now (output .exit) ≡ cond (threeBlocks (length (now (key .entry))) (length (now (constant .entry))) (length (now (output .entry)))) (kdf (now (key .entry)) (now (constant .entry))) (now (output .entry)) ⌝ }
+    ensures { λ r. ⌜ r ≡ derivation (now (key .entry)) (now (constant .entry)) (now (output .entry)) .answer ⌝ }
+    ensures { λ _. ⌜ now (output .exit) ≡ derivation (now (key .entry)) (now (constant .entry)) (now (output .entry)) .output ⌝ }
 {
     if !three_blocks(key.len(), constant.len(), output.len()) {
         return GENERAL_ERROR;
