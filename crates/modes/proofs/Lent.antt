@@ -46,10 +46,10 @@ cmac-facts key bits message output h =
     let c = both (eqb message (16 * blockCount bits)) (eqb output 16) (b .1) in
     (eqb-true _ _ (a .0), leb-true _ _ (b .0), eqb-true _ _ (c .0), eqb-true _ _ (c .1))
 
-pub compress-facts : (out text output : ℕ) → compressLengths out text output ≡ true → (out ≡ 16) × (output ≡ 16)
+pub compress-facts : (start text output : ℕ) → compressLengths start text output ≡ true → (start ≡ 16) × (output ≡ 16)
 unfolding compressLengths
-compress-facts out text output h =
-    let a = both (eqb out 16) _ h in
+compress-facts start text output h =
+    let a = both (eqb start 16) _ h in
     let b = both (eqb (text % 16) 0) (eqb output 16) (a .1) in
     (eqb-true _ _ (a .0), eqb-true _ _ (b .1))
 

@@ -34,6 +34,6 @@ unfoldable pub cmacLengths : ℕ → ℕ → ℕ → ℕ → Bool
 cmacLengths key bits message output =
     eqb key 16 && (leb bits 524288 && (eqb message (16 * blockCount bits) && eqb output 16))
 
--- compression: from an output of 16 bytes, any number of whole blocks, output 16 bytes
+-- compression: a start of 16 bytes, any number of whole blocks, output 16 bytes
 unfoldable pub compressLengths : ℕ → ℕ → ℕ → Bool
-compressLengths out text output = eqb out 16 && (eqb (text % 16) 0 && eqb output 16)
+compressLengths start text output = eqb start 16 && (eqb (text % 16) 0 && eqb output 16)

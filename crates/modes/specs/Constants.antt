@@ -1,4 +1,4 @@
--- The constants of 000 and of 001, 4.12.
+-- The constants of 000 and of 001, 4.12, by their names there without the ending: KEY_UPDATE_ENC_C is KeyUpdateEnc.
 -- Assumes nothing.
 use mathlib.Core.List.{List, [], _∷_}
 use Prim.Native.Nat.{ℕ}

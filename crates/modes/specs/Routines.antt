@@ -29,9 +29,9 @@ abbrev pub authentication : List ℕ → ℕ → List ℕ → List ℕ → Outco
 authentication key bits message output =
     outcome (cmacLengths (length key) bits (length message) (length output)) (cmac (cipher key) bits message) output
 
--- the compression of a text, carried on from an output
+-- the compression of a text, carried on from an earlier output or zero
 abbrev pub compression : List ℕ → List ℕ → List ℕ → Outcome
-compression out text output = outcome (compressLengths (length out) (length text) (length output)) (compressFrom out text) output
+compression start text output = outcome (compressLengths (length start) (length text) (length output)) (compressFrom start text) output
 
 -- KDF(K, C)
 abbrev pub derivation : List ℕ → List ℕ → List ℕ → Outcome

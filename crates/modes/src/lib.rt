@@ -342,10 +342,10 @@ fn compress_blocks(start: [u8; 16], text: &[u8]) -> [u8; 16]
     out
 }
 
-fn compress_lengths(out: usize, text: usize, output: usize) -> bool
-    ensures { λ r. ⌜ r ≡ compressLengths out text output ⌝ }
+fn compress_lengths(start: usize, text: usize, output: usize) -> bool
+    ensures { λ r. ⌜ r ≡ compressLengths start text output ⌝ }
 {
-    if out != 16 {
+    if start != 16 {
         return false;
     }
     if text % 16 != 0 {
@@ -354,15 +354,15 @@ fn compress_lengths(out: usize, text: usize, output: usize) -> bool
     output == 16
 }
 
-// The compression of a text in whole blocks, carried on from an output; from zero, it is the compression of the text.
-pub fn compress(out: &[u8], text: &[u8], output: &mut [u8]) -> u8
-    ensures { λ r. ⌜ r ≡ compression (now (out .entry)) (now (text .entry)) (now (output .entry)) .answer ⌝ }
-    ensures { λ _. ⌜ now (output .exit) ≡ compression (now (out .entry)) (now (text .entry)) (now (output .entry)) .output ⌝ }
+// The compression of a text in whole blocks, carried on from a start, which is an earlier output or zero.
+pub fn compress(start: &[u8], text: &[u8], output: &mut [u8]) -> u8
+    ensures { λ r. ⌜ r ≡ compression (now (start .entry)) (now (text .entry)) (now (output .entry)) .answer ⌝ }
+    ensures { λ _. ⌜ now (output .exit) ≡ compression (now (start .entry)) (now (text .entry)) (now (output .entry)) .output ⌝ }
 {
-    if !compress_lengths(out.len(), text.len(), output.len()) {
+    if !compress_lengths(start.len(), text.len(), output.len()) {
         return GENERAL_ERROR;
     }
-    let result = compress_blocks(load(out, 0), text);
+    let result = compress_blocks(load(start, 0), text);
     store(output, 0, result);
     NO_ERROR
 }

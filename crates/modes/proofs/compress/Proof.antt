@@ -15,7 +15,7 @@ use Rattle.modes.proofs.compress.Statement.{statement}
 use Rattle.modes.proofs.compress.Tie as tie
 
 -- past the test the lengths are right
-right : (c : tie.Else1) → let a = c .before .before .before .before .before .args in compressLengths (length (a .out .now)) (length (a .text .now)) (length (a .output .now)) ≡ true
+right : (c : tie.Else1) → let a = c .before .before .before .before .before .args in compressLengths (length (a .start .now)) (length (a .text .now)) (length (a .output .now)) ≡ true
 right c = sym (c .before .compress-lengths .ensures) ∙ not-false _ (c .if1 .left)
 
 compress-lengths-requires : tie.Need-compress-lengths-requires
@@ -42,9 +42,9 @@ returns-2 c = let s = c .before .before in
     let o = e .before .before in
     let a = o .before .before .before .before .before .args in
     let f = compress-facts _ _ _ (right o) in
-    let out = loaded (a .out .now) _ (e .before .load .ensures) (f .0) in
+    let start = loaded (a .start .now) _ (e .before .load .ensures) (f .0) in
     done _ _ _ _ (right o)
-    (stored (a .output .now) _ _ (s .store .ensures) (f .1) (omega arith) ∙ e .compress-blocks .ensures ∙ ap (λ (o : List ℕ). compressFrom o (a .text .now)) out)
+    (stored (a .output .now) _ _ (s .store .ensures) (f .1) (omega arith) ∙ e .compress-blocks .ensures ∙ ap (λ (o : List ℕ). compressFrom o (a .text .now)) start)
 
 pub compress-spec : {M : Type 1} → statement M
 compress-spec =
