@@ -136,8 +136,8 @@ fn encrypt_blocks(w: &[u8; 176], iv: [u8; 16], input: &[u8], output: &mut [u8])
     while at < input.len() {
         let p = load(input, at);
         let c = aes::encrypt_with(w, add(p, previous));
-        store(output, at, c);
         previous = c;
+        store(output, at, previous);
         at += 16;
     }
 }
