@@ -1,9 +1,9 @@
 -- Lists of bytes from bytes and from lists of bytes.
 -- Assumes nothing.
 use mathlib.Core.List.{List, [], _∷_, _++_}
-use Prim.Native.Nat.{ℕ, _<_}
+use Prim.Native.Nat.{ℕ, zero, suc, _<_}
 use lib.Dec.{lit<}
-use lib.ListN.{take, drop}
+use lib.ListN.{take, drop, replicate}
 use Rattle.laws.proofs.Each.{each-four, each-append, each-take, each-drop}
 use Rattle.laws.proofs.Tabulate.{length-tabulate, all-tabulate}
 use Rattle.aes.specs.State.{state, Bytes, Block}
@@ -13,6 +13,11 @@ four-bytes = each-four (λ (x : ℕ). x < 256) (lit< tt)
 
 pub append-bytes : (u v : List ℕ) → Bytes u → Bytes v → Bytes (u ++ v)
 append-bytes = each-append (λ (x : ℕ). x < 256) (lit< tt)
+
+pub zero-bytes : (n : ℕ) → Bytes (replicate n 0)
+zero-bytes zero i = lit< tt
+zero-bytes (suc n) zero = lit< tt
+zero-bytes (suc n) (suc i) = zero-bytes n i
 
 pub take-bytes : (n : ℕ) (s : List ℕ) → Bytes s → Bytes (take n s)
 take-bytes = each-take (λ (x : ℕ). x < 256) (lit< tt)

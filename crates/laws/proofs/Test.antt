@@ -1,10 +1,12 @@
--- A test that is computed at every number below n, and what it then shows of each; of a table, that it follows its rule.
+-- A test that is computed at every number below n, and what it then shows of each; of a table, that it follows its rule. Two
+-- tests at once, and a choice by a test.
 -- Assumes nothing.
-use mathlib.Core.Path.{_≡_, sym, _∙_}
-use mathlib.Core.Bool.{Bool, true, false, _&&_}
+use mathlib.Core.Path.{_≡_, refl, sym, ap, _∙_}
+use mathlib.Core.Bool.{Bool, true, false, cond, _&&_, false≢true}
 use mathlib.Core.List.{List}
 use Prim.Native.Nat.{ℕ, zero, suc, _<_}
 use native.Mathlib.Omega.{arith}
+use borrow.Author.Tests.{eq-eqb, ne-eqb}
 use lib.Dec.{T, eqb, eqb→eq}
 use lib.ListN.{length, getD}
 use Rattle.laws.specs.Tabulate.{tabulate}
@@ -41,3 +43,15 @@ agree f g n t k h = eqb→eq (f k) (g k) (all-each n (λ k. eqb (f k) (g k)) t k
 -- a table whose every entry is computed to be what the rule says
 pub table-rule : (f : ℕ → ℕ) (xs : List ℕ) (n : ℕ) → length xs ≡ n → T (all n (λ k. eqb (getD xs k 0) (f k))) → xs ≡ tabulate n f
 table-rule f xs n long t = sym (tabulate-own n xs long) ∙ tabulate-same n (λ k. getD xs k 0) f (agree (λ k. getD xs k 0) f n t)
+
+-- both of two tests
+pub both : (a b : Bool) → (a && b) ≡ true → (a ≡ true) × (b ≡ true)
+both true b h = (refl, h)
+both false b h = absurd (false≢true h)
+
+-- one list where two numbers are equal, and another where not
+pub where-equal : (m n : ℕ) (x y : List ℕ) → m ≡ n → x ≡ cond (eqb m n) x y
+where-equal m n x y e = sym (ap (λ (b : Bool). cond b x y) (eq-eqb m n e))
+
+pub where-other : (m n : ℕ) (x y : List ℕ) → (m ≡ n → ⊥) → y ≡ cond (eqb m n) x y
+where-other m n x y e = sym (ap (λ (b : Bool). cond b x y) (ne-eqb m n e))

@@ -1,7 +1,7 @@
 -- Lent buffers: what a test of their lengths tells, a whole one loaded or stored, and the two outcomes of a routine.
 -- Assumes nothing.
 use mathlib.Core.Path.{_≡_, refl, _∙_}
-use mathlib.Core.Bool.{Bool, true, false, _&&_, false≢true}
+use mathlib.Core.Bool.{Bool, true, false}
 use mathlib.Core.List.{List}
 use mathlib.Core.Logic.{_⊎_, inl, inr}
 use Prim.Native.Nat.{ℕ, _*_, _%_, _≤_}
@@ -11,14 +11,11 @@ use lib.Dec.{eqb, leb}
 use lib.ListN.{length, take, drop}
 use lib.Seq.{take-all, paste}
 use Rattle.laws.proofs.Paste.{pasted-over}
+use Rattle.laws.proofs.Test.{both}
 use Rattle.modes.specs.Answer.{noError, generalError, outcome, threeBlocks, cbcLengths, cmacLengths, compressLengths}
 use Rattle.modes.specs.Cmac.{blockCount}
 
 -- ---- the tests
-both : (a b : Bool) → (a && b) ≡ true → (a ≡ true) × (b ≡ true)
-both true b h = (refl, h)
-both false b h = absurd (false≢true h)
-
 pub three-blocks-facts : (first second third : ℕ) → threeBlocks first second third ≡ true → (first ≡ 16) × (second ≡ 16) × (third ≡ 16)
 unfolding threeBlocks
 three-blocks-facts first second third h =

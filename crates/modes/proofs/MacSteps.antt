@@ -1,13 +1,12 @@
 -- CMAC: the last block by its two cases, and the steps of the code put together.
 -- Assumes nothing.
 use mathlib.Core.Path.{_≡_, sym, ap, ap₂, _∙_}
-use mathlib.Core.Bool.{Bool, cond}
 use mathlib.Core.List.{List, [], _∷_, foldl, foldl-append}
 use Prim.Native.Nat.{ℕ, _-_, _*_}
 use native.Mathlib.Omega.{arith}
 use lib.ListN.{length, take, drop, length-drop}
 use lib.Seq.{take-all}
-use borrow.Author.Tests.{eq-eqb, ne-eqb}
+use Rattle.laws.proofs.Test.{where-equal, where-other}
 use Rattle.modes.specs.Blocks.{_⊕_, zeroBlock, blocks}
 use Rattle.modes.specs.Cbc.{chained}
 use Rattle.modes.specs.Cmac.{k1, k2, padded, blockCount, lastAt, lastBlock, cmac}
@@ -15,11 +14,11 @@ use Rattle.modes.specs.Cmac.{k1, k2, padded, blockCount, lastAt, lastBlo
 module _ (ciph : List ℕ → List ℕ) where
   pub complete : (r : ℕ) (x : List ℕ) → r ≡ 128 → k1 ciph ⊕ x ≡ lastBlock ciph r x
   unfolding lastBlock
-  complete r x e = sym (ap (λ (b : Bool). cond b (k1 ciph ⊕ x) (k2 ciph ⊕ padded r x)) (eq-eqb r 128 e))
+  complete r x e = where-equal r 128 (k1 ciph ⊕ x) (k2 ciph ⊕ padded r x) e
 
   pub incomplete : (r : ℕ) (x : List ℕ) → (r ≡ 128 → ⊥) → k2 ciph ⊕ padded r x ≡ lastBlock ciph r x
   unfolding lastBlock
-  incomplete r x e = sym (ap (λ (b : Bool). cond b (k1 ciph ⊕ x) (k2 ciph ⊕ padded r x)) (ne-eqb r 128 e))
+  incomplete r x e = where-other r 128 (k1 ciph ⊕ x) (k2 ciph ⊕ padded r x) e
 
   -- the blocks before the last chained, and then the last
   last-chained : (bits : ℕ) (m : List ℕ)

@@ -17,7 +17,7 @@ use Rattle.laws.proofs.Tabulate.{length-tabulate, tabulate-same}
 use Rattle.laws.proofs.Xor.{xor-joined, xor-same, xor-zero, bit-cases}
 use Rattle.field.specs.Field.{bit}
 use Rattle.laws.proofs.Each.{each-cons}
-use Rattle.aes.proofs.Bytes.{append-bytes, drop-bytes, state-block}
+use Rattle.aes.proofs.Bytes.{zero-bytes, append-bytes, drop-bytes, state-block}
 use Rattle.aes.specs.State.{byte, state, Bytes, Block}
 use Rattle.modes.specs.Blocks.{_⊕_}
 use Rattle.modes.specs.Number.{number, doubleNumber, paddedNumber}
@@ -125,11 +125,6 @@ top-bit (b ∷ x) h =
     ap (λ (k : ℕ). bit (b * 256 ^ k + number x) 127) long
     ∙ ap (λ (m : ℕ). m % 2) (sym (shr-shr n 120 7) ∙ ap (λ (m : ℕ). m / 2 ^ 7) (high b 120 (below-bits 15 x long (λ i. h .small (suc i)))))
 
-zero-bytes : (n : ℕ) → Bytes (replicate n 0)
-zero-bytes zero i = lit< tt
-zero-bytes (suc n) zero = lit< tt
-zero-bytes (suc n) (suc i) = zero-bytes n i
-
 r128-block : Block r128
 r128-block = record { long = refl; small = append-bytes (replicate 15 0) (0x87 ∷ []) (zero-bytes 15) (each-cons (λ (x : ℕ). x < 256) (lit< tt) 0x87 [] (lit< tt) (λ i. lit< tt)) }
 
@@ -159,9 +154,9 @@ cut-joined a b t s e =
     ap (λ (n : ℕ). n * 2 ^ s) apart ∙ add-mul (a * 2 ^ t * 2) (b * 2 + 1) (2 ^ s) ∙ ap (λ (n : ℕ). n + (b * 2 + 1) * 2 ^ s) whole
 
 -- a number of whole bytes a, a byte b, and k bits v after it: its first bits, as far as the t of b
-pub first-bits : (a b v k t s : ℕ) → t + suc s ≡ 8 → v < 2 ^ k
+bits-kept : (a b v k t s : ℕ) → t + suc s ≡ 8 → v < 2 ^ k
     → (((a * 256 + b) * 2 ^ k + v) / 2 ^ (k + suc s) * 2 + 1) * 2 ^ (k + s) ≡ (a * 256 + (b / 2 ^ suc s * 2 + 1) * 2 ^ s) * 2 ^ k
-first-bits a b v k t s e below =
+bits-kept a b v k t s e below =
     let split : a * 256 + b ≡ a * 2 ^ t * 2 ^ suc s + b
     = ap (λ (n : ℕ). n + b) (sym (mul-assoc a (2 ^ t) (2 ^ suc s) ∙ ap (λ (n : ℕ). a * n) (sym (pow-add 2 t (suc s)) ∙ ap (λ (n : ℕ). 2 ^ n) e))) in
     let first : ((a * 256 + b) * 2 ^ k + v) / 2 ^ (k + suc s) ≡ a * 2 ^ t + b / 2 ^ suc s
@@ -199,6 +194,6 @@ padding-of-number r x h block =
     between (take q x) (replicate (15 - q) 0) (cut t b) (15 - q) (length-replicate (15 - q) 0)
     ∙ ap₂ (λ (c z : ℕ). (a * 256 + c) * 2 ^ k + z) (ap (λ (n : ℕ). (b / 2 ^ n * 2 + 1) * 2 ^ s) more) (number-zeros (15 - q))
     ∙ add-zero _
-    ∙ sym (first-bits a b (number after) k t s (omega arith) (below-bits (15 - q) after long (drop-bytes (suc q) x (block .small))))
+    ∙ sym (bits-kept a b (number after) k t s (omega arith) (below-bits (15 - q) after long (drop-bytes (suc q) x (block .small))))
     ∙ sym (ap (λ (n : ℕ). (n / 2 ^ (k + suc s) * 2 + 1) * 2 ^ (k + s)) whole)
     ∙ sym (ap₂ (λ (m n : ℕ). (number x / 2 ^ m * 2 + 1) * 2 ^ n) bits bits′)

@@ -18,7 +18,7 @@ set-lowest n =
     let one : max (n % 2) 1 ≡ 1 = omega arith in
     or-step n 1 ∙ ap₂ (λ (a b : ℕ). a * 2 + b) (or-zero-r (n / 2)) one
 
-pub cut-below : (t s b : ℕ) → t + suc s ≡ 8 → b < 256 → (b / 2 ^ suc s * 2 + 1) * 2 ^ s < 256
+cut-below : (t s b : ℕ) → t + suc s ≡ 8 → b < 256 → (b / 2 ^ suc s * 2 + 1) * 2 ^ s < 256
 cut-below t s b e hb =
     let top : b / 2 ^ suc s < 2 ^ t = shr-lt t (suc s) (subst (λ (n : ℕ). b < 2 ^ n) (sym e) hb) in
     let next : suc t + s ≡ 8 = omega arith in

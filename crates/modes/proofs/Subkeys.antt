@@ -1,13 +1,12 @@
 -- The doubling of CMAC's subkeys: what the code computes of each byte, and its two cases.
 -- Assumes nothing.
-use mathlib.Core.Path.{_≡_, sym, ap}
-use mathlib.Core.Bool.{Bool, cond}
+use mathlib.Core.Path.{_≡_}
 use mathlib.Core.List.{List}
 use Prim.Native.Nat.{ℕ, _+_, _*_, _/_, _%_, _<_, _≤_}
 use native.Mathlib.Omega.{arith}
 use lib.Bits.{bitOr, or-shifted}
 use lib.ListN.{length, List·getD-eq-default}
-use borrow.Author.Tests.{eq-eqb, ne-eqb}
+use Rattle.laws.proofs.Test.{where-equal, where-other}
 use Rattle.field.specs.Field.{bit}
 use Rattle.aes.specs.State.{byte}
 use Rattle.modes.specs.Blocks.{_⊕_}
@@ -28,10 +27,10 @@ pub plain-double : (x : List ℕ) → byte x 0 < 128 → shiftLeft x ≡ double 
 unfolding double
 plain-double x h =
     let zero : bit (byte x 0) 7 ≡ 0 = omega arith in
-    sym (ap (λ (b : Bool). cond b (shiftLeft x) (shiftLeft x ⊕ r128)) (eq-eqb _ _ zero))
+    where-equal (bit (byte x 0) 7) 0 (shiftLeft x) (shiftLeft x ⊕ r128) zero
 
 pub reduced-double : (x : List ℕ) → 128 ≤ byte x 0 → byte x 0 < 256 → shiftLeft x ⊕ r128 ≡ double x
 unfolding double
 reduced-double x h small =
     let one : bit (byte x 0) 7 ≡ 1 = omega arith in
-    sym (ap (λ (b : Bool). cond b (shiftLeft x) (shiftLeft x ⊕ r128)) (ne-eqb (bit (byte x 0) 7) 0 (λ e. omega arith)))
+    where-other (bit (byte x 0) 7) 0 (shiftLeft x) (shiftLeft x ⊕ r128) (λ e. omega arith)

@@ -270,6 +270,15 @@ fn repeated(block: [u8; 16]) -> [u8; 65600] {
     text
 }
 
+// How many of its bytes are so many blocks.
+fn size_of(count: u64) -> usize {
+    if count < 4100 {
+        16 * count as usize
+    } else {
+        65600
+    }
+}
+
 // The last 16 bytes, or all.
 fn last_block(bytes: &[u8]) -> &[u8] {
     if 16 < bytes.len() {
@@ -282,14 +291,10 @@ fn last_block(bytes: &[u8]) -> &[u8] {
 
 fn cbc_repeated(line: &[u8]) {
     let mut block = [0u8; 16];
-    let count = number(line, 3);
     if operand(line, 2, &mut block) != 32 {
         return no_such_vector();
     }
-    if 4100 < count {
-        return no_such_vector();
-    }
-    let size = 16 * count as usize;
+    let size = size_of(number(line, 3));
     let mut key = [0u8; ROOM];
     let mut iv = [0u8; ROOM];
     let text = repeated(block);
@@ -325,15 +330,11 @@ fn cmac(line: &[u8]) {
 
 fn cmac_repeated(line: &[u8]) {
     let mut block = [0u8; 16];
-    let count = number(line, 3);
     if operand(line, 2, &mut block) != 32 {
         return no_such_vector();
     }
-    if 4100 < count {
-        return no_such_vector();
-    }
     let message = repeated(block);
-    mac(line, 4, front(&message, 16 * count as usize));
+    mac(line, 4, front(&message, size_of(number(line, 3))));
 }
 
 fn run_line(line: &[u8]) {
