@@ -1,5 +1,8 @@
 pub mod Each
 pub mod Paste
+pub mod Powers
+pub mod Ranges
+pub mod Same
 pub mod Settled
 pub mod Tabulate
 pub mod Test

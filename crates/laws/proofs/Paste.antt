@@ -6,7 +6,7 @@ use mathlib.Core.List.{List, _++_, append-nil}
 use native.Mathlib.Numerals.{add-one}
 use native.Mathlib.Omega.{arith}
 use lib.ListN.{length, take, getD, set, List·getD-append, drop-of-length-le}
-use lib.Seq.{take-all, paste, paste-suc, take-paste, drop-paste, length-take-le, getD-take, getD-drop, getD-append-add}
+use lib.Seq.{take-all, take-length, paste, paste-suc, take-paste, drop-paste, length-take-le, getD-take, getD-drop, getD-append-add}
 
 -- a turn of the loop `w[at + j] = s[j]; j += 1`, and its end
 pub paste-more : (d s w : List ℕ) (at j : ℕ) → at + j < length d → j < length s → w ≡ paste d at s j
@@ -47,3 +47,11 @@ module _ (d s : List ℕ) (at n : ℕ) (room : at + n ≤ length d) (enough : n 
       sym (getD-drop (at + n) (paste d at s n) i 0)
       ∙ ap (λ (t : List ℕ). getD t i 0) (drop-paste d at s n (omega arith) enough)
       ∙ getD-drop (at + n) d i 0
+
+-- parts put one after the other: n numbers of the list are what was done before, and this part
+pub part-put : (d s w done : List ℕ) (at n : ℕ) → take at d ≡ done → at + length s ≡ n → n ≤ length d → w ≡ paste d at s (length s)
+    → take n w ≡ done ++ s
+part-put d s w done at n before to room e =
+    ap₂ take (sym to) e
+    ∙ take-paste d at s (length s) (omega arith) (omega arith)
+    ∙ ap₂ (λ (a b : List ℕ). a ++ b) before (take-length s)

@@ -1,2 +1,4 @@
+pub mod Ranges
+pub mod Same
 pub mod Tabulate
 pub mod Xor

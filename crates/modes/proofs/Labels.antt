@@ -2,14 +2,14 @@
 -- Assumes nothing.
 use mathlib.Core.Path.{_≡_, refl, sym, ap, _∙_}
 use mathlib.Core.List.{List, _++_, append-assoc}
-use Prim.Native.Nat.{ℕ, _+_, _*_, _/_, _^_, _%_, _<_}
-use native.Mathlib.Nat.{div-add-mod', mod-eq-of-lt}
+use Prim.Native.Nat.{ℕ, _+_, _*_, _^_, _%_, _<_}
+use native.Mathlib.Nat.{mod-eq-of-lt}
 use native.Mathlib.Omega.{arith}
 use lib.ListN.{length, length-append}
-use lib.Pow.{shr-lt, shr-shr}
-use Rattle.modes.specs.Compression.{compress, kdf, zeroBits, inFiveBytes, padding, preprocessed}
+use Rattle.modes.proofs.InBytes.{number-in-bytes}
+use Rattle.modes.specs.Compression.{compress, kdf, zeroBits, padding, preprocessed}
 use Rattle.modes.specs.Constants.{constantOf, label}
-use Rattle.modes.specs.Number.{number}
+use Rattle.modes.specs.Number.{number, inBytes}
 use Rattle.modes.specs.declared.Constant.the-variants.{KeyUpdateEnc, KeyUpdateMac, DebugKey, PrngKey, PrngSeedKey, PrngExtension}
 
 -- the zeros are as many as 4.3.3 asks for, the fewest, and fill whole bytes; the length is that number
@@ -19,18 +19,8 @@ zeros-asked l = (omega arith, omega arith)
 pub zeros-in-bytes : (n : ℕ) → zeroBits (8 * n) % 8 ≡ 7
 zeros-in-bytes n = omega arith
 
-pub length-in-40-bits : (l : ℕ) → l < 2 ^ 40 → number (inFiveBytes l) ≡ l
-unfolding number
-length-in-40-bits l h =
-    let digit : (k m : ℕ) → l / 2 ^ k / 2 ^ 8 ≡ m → l / 2 ^ k ≡ m * 256 + l / 2 ^ k % 256
-    = λ k m e. sym (div-add-mod' (l / 2 ^ k) 256) ∙ ap (λ (n : ℕ). n * 256 + l / 2 ^ k % 256) e in
-    let top : l / 0x100000000 % 256 ≡ l / 0x100000000 = mod-eq-of-lt (shr-lt 8 32 h) in
-    from-digits l _ _ _ _ (l % 256) (l / 0x100 % 256) (l / 0x10000 % 256) (l / 0x1000000 % 256) (l / 0x100000000 % 256) (sym (div-add-mod' l 256))
-    (digit 8 _ (shr-shr l 8 8)) (digit 16 _ (shr-shr l 16 8)) (digit 24 _ (shr-shr l 24 8)) (sym top)
-  where
-    from-digits : (l l1 l2 l3 l4 d0 d1 d2 d3 d4 : ℕ) → l ≡ l1 * 256 + d0 → l1 ≡ l2 * 256 + d1 → l2 ≡ l3 * 256 + d2 → l3 ≡ l4 * 256 + d3 → l4 ≡ d4
-        → d4 * 256 ^ 4 + (d3 * 256 ^ 3 + (d2 * 256 ^ 2 + (d1 * 256 ^ 1 + (d0 * 256 ^ 0 + 0)))) ≡ l
-    from-digits l l1 l2 l3 l4 d0 d1 d2 d3 d4 e0 e1 e2 e3 e4 = omega arith
+pub length-in-40-bits : (l : ℕ) → l < 2 ^ 40 → number (inBytes 5 l) ≡ l
+length-in-40-bits l h = number-in-bytes 5 l ∙ mod-eq-of-lt h
 
 -- a key of 128 bits and a label of 48: 176 bits. The constants 1 to 5 are labels with that padding, and the last is the
 -- padding of 256 bits

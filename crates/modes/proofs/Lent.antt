@@ -68,6 +68,11 @@ pub done : (right : Bool) (after result before : List ℕ) → right ≡ true �
 unfolding outcome
 done right after result before e h = (rw e, rw e h)
 
+-- the output of one that is done
+pub succeeded : (right : Bool) (result before : List ℕ) → right ≡ true → outcome right result before .output ≡ result
+unfolding outcome
+succeeded right result before e = rw e
+
 -- there is no third: an answer is 0, or it is 12 and the output is as it was
 pub answered : (right : Bool) (result before : List ℕ)
     → (outcome right result before .answer ≡ noError)

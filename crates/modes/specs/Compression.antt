@@ -1,10 +1,11 @@
 -- The compression function and the key derivation of 001, 4.3.3: Miyaguchi-Preneel with AES.
 -- Assumes nothing.
-use mathlib.Core.List.{List, [], _∷_, _++_, foldl}
+use mathlib.Core.List.{List, _∷_, _++_, foldl}
 use Prim.Native.Nat.{ℕ, _+_, _-_, _*_, _/_, _%_}
 use lib.ListN.{length, replicate}
 use Rattle.aes.specs.Cipher.{cipher}
 use Rattle.modes.specs.Blocks.{_⊕_, zeroBlock, blocks}
+use Rattle.modes.specs.Number.{inBytes}
 
 -- OUT_i = ENC(key OUT_(i-1), x_i) ⊕ x_i ⊕ OUT_(i-1)
 abbrev pub compressed : List ℕ → List ℕ → List ℕ
@@ -27,11 +28,8 @@ kdf key constant = compress (key ++ constant)
 abbrev pub zeroBits : ℕ → ℕ
 zeroBits l = (216 - (l + 1) % 128) % 128
 
-abbrev pub inFiveBytes : ℕ → List ℕ
-inFiveBytes l = l / 0x100000000 % 256 ∷ l / 0x1000000 % 256 ∷ l / 0x10000 % 256 ∷ l / 0x100 % 256 ∷ l % 256 ∷ []
-
 unfoldable pub padding : ℕ → List ℕ
-padding l = (0x80 ∷ replicate (zeroBits l / 8) 0) ++ inFiveBytes l
+padding l = (0x80 ∷ replicate (zeroBits l / 8) 0) ++ inBytes 5 l
 
 unfoldable pub preprocessed : List ℕ → List ℕ
 preprocessed message = message ++ padding (8 * length message)

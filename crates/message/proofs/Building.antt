@@ -1,0 +1,181 @@
+-- Building is one-to-one, and opening undoes it: M3 is right and the filler is zero exactly where some counter, flags and key
+-- build these very messages, and then they are those handed back.
+-- Assumes nothing.
+use mathlib.Core.Path.{_≡_, refl, sym, ap, ap₂, _∙_, subst}
+use mathlib.Core.Bool.{Bool, true, false, cond, _&&_, false≢true}
+use mathlib.Core.List.{List, [], _∷_, _++_}
+use mathlib.Core.Logic.{_↔_}
+use Prim.Native.Nat.{ℕ, _+_, _*_, _/_, _%_, _^_, _≤_, _<_}
+use native.Mathlib.Omega.{arith}
+use borrow.Author.Tests.{eqb-true}
+use lib.ListN.{length, take, drop, length-append, take-append-drop, drop-of-length-le}
+use lib.Seq.{take-at, drop-at, getD-at, split-at}
+use Rattle.laws.specs.Same.{same}
+use Rattle.laws.proofs.Same.{same-equal, equal-same}
+use Rattle.laws.proofs.Test.{both}
+use Rattle.aes.specs.Cipher.{cipher}
+use Rattle.aes.specs.State.{byte, Block}
+use Rattle.aes.proofs.Bytes.{append-bytes, zero-block}
+use Rattle.modes.specs.Blocks.{zeroBlock, Text}
+use Rattle.modes.specs.Cbc.{cbcEncrypt}
+use Rattle.modes.specs.Constants.{constantOf}
+use Rattle.modes.specs.declared.Constant.the-variants.{KeyUpdateEnc}
+use Rattle.modes.proofs.Cbc.{cbc-deciphers, cbc-enciphers, cbc-decrypted}
+use Rattle.modes.proofs.Compression.{kdf-block, constant-block}
+use Rattle.modes.proofs.Texts.{first, rest}
+use Rattle.message.specs.Building.{uidOf, targetOf, authorityOf, Built}
+use Rattle.message.specs.FirstBlock.{firstBlock, counterOf, flagsOf, fillerOf}
+use Rattle.message.specs.Messages.{encKey, m1, m2, m3}
+use Rattle.message.specs.Opening.{openLengths, clearText, openedText, unopened, opened}
+use Rattle.message.specs.declared.Opened.{Opened}
+use Rattle.message.proofs.Opening.{opened-by-m3}
+use Rattle.message.proofs.FirstBlock.{first-block, counter-packed, flags-packed, filler-packed, counter-read, flags-read, packs-back}
+
+-- ---- M1 is its parts, and determines them
+pub m1-parts : (first : List ℕ) → length first ≡ 16 → first ≡ m1 (uidOf first) (targetOf first) (authorityOf first)
+unfolding m1
+m1-parts first long =
+    let whole : byte first 15 ≡ 16 * (byte first 15 / 16) + byte first 15 % 16 = omega arith in
+    split-at first 15 0 (omega arith) ∙ ap₂ (λ (b : ℕ) (l : List ℕ). take 15 first ++ (b ∷ l)) whole (none first long)
+  where
+    none : (first : List ℕ) → length first ≡ 16 → drop 16 first ≡ []
+    none first long = let short : length first ≤ 16 = omega arith in drop-of-length-le first short
+
+module _ (uid : List ℕ) (t a : ℕ) (long : length uid ≡ 15) (small : a < 16) where
+  pub uid-of-m1 : uidOf (m1 uid t a) ≡ uid
+  unfolding m1
+  uid-of-m1 = take-at uid _ 15 long
+
+  slots-of-m1 : byte (m1 uid t a) 15 ≡ 16 * t + a
+  unfolding m1
+  slots-of-m1 = getD-at uid _ [] 0 15 long
+
+  pub target-of-m1 : targetOf (m1 uid t a) ≡ t
+  target-of-m1 = ap (λ (b : ℕ). b / 16) slots-of-m1 ∙ omega arith
+
+  pub authority-of-m1 : authorityOf (m1 uid t a) ≡ a
+  authority-of-m1 = ap (λ (b : ℕ). b % 16) slots-of-m1 ∙ omega arith
+
+-- ---- M2: deciphering undoes building, and building undoes deciphering where the filler is zero
+module _ (secret : List ℕ) (hs : Block secret) where
+  k1-block : Block (encKey secret)
+  k1-block = kdf-block secret (constantOf KeyUpdateEnc) hs (constant-block KeyUpdateEnc)
+
+  pub clear-of-m2 : (n c f : ℕ) (key : List ℕ) → Block key → clearText secret (m2 n secret c f key) ≡ firstBlock n c f ++ key
+  unfolding m2 clearText
+  clear-of-m2 n c f key hk =
+      let block = first-block n c f in
+      let clear : List ℕ = firstBlock n c f ++ key in
+      cbc-deciphers (encKey secret) zeroBlock clear 2 k1-block zero-block
+      (record {
+        long = length-append (firstBlock n c f) key ∙ ap₂ (λ (m k : ℕ). m + k) (block .long) (hk .long);
+        small = append-bytes (firstBlock n c f) key (block .small) (hk .small);
+      })
+
+  module _ (second : List ℕ) (h2 : Text 2 second) where
+    clear-text : Text 2 (clearText secret second)
+    unfolding clearText
+    clear-text = cbc-decrypted (encKey secret) zeroBlock second 2 k1-block zero-block h2
+
+    first-clear : Block (take 16 (clearText secret second))
+    first-clear = first 1 (clearText secret second) clear-text
+
+    pub m2-of-clear : (n : ℕ) → n ≤ 100 → fillerOf n (take 16 (clearText secret second)) ≡ 0
+        → m2 n secret (counterOf (take 16 (clearText secret second))) (flagsOf n (take 16 (clearText secret second))) (drop 16 (clearText secret second)) ≡ second
+    unfolding m2 clearText
+    m2-of-clear n few zeros =
+        let clear : List ℕ = clearText secret second in
+        ap (cbcEncrypt (cipher (encKey secret)) zeroBlock)
+        (ap (λ (b : List ℕ). b ++ drop 16 clear) (packs-back n few (take 16 clear) first-clear zeros) ∙ take-append-drop 16 clear)
+        ∙ cbc-enciphers (encKey secret) zeroBlock second 2 k1-block zero-block h2
+
+-- ---- opening
+opened-only : (passed : Bool) (o : Opened) → cond passed o unopened .genuine ≡ true → passed ≡ true
+opened-only true o e = refl
+opened-only false o e = absurd (false≢true e)
+
+read : (n : ℕ) → n ≤ 100 → (c f : ℕ) (key : List ℕ) → c < 2 ^ 28 → f < 2 ^ n
+    → openedText n (firstBlock n c f ++ key) ≡ record { genuine = true; counter = c; flags = f; zeros = true; key = key }
+unfolding openedText
+read n few c f key hc hf =
+    let block = first-block n c f in
+    let front = take-at (firstBlock n c f) key 16 (block .long) in
+    let back = drop-at (firstBlock n c f) key 16 (block .long) in
+    rw (front, back, counter-packed n few c f hc hf, flags-packed n few c f hc hf, filler-packed n few c f hc hf)
+
+module _ (n : ℕ) (few : n ≤ 100) (secret one two three : List ℕ) (hs : Block secret) (h1 : length one ≡ 16) (h2 : Text 2 two) (h3 : length three ≡ 16) where
+  right : openLengths (length secret) (length one) (length two) (length three) ≡ true
+  unfolding openLengths
+  right = rw (hs .long, h1, h2 .long, h3)
+
+  -- where M3 is the MAC of M1 and M2 it is opened, and nowhere else
+  opened-text : three ≡ m3 secret one two → opened n secret one two three ≡ openedText n (clearText secret two)
+  opened-text e = sym (opened-by-m3 n secret one two three right (same-equal three (m3 secret one two) e))
+
+  genuine-m3 : opened n secret one two three .genuine ≡ true → three ≡ m3 secret one two
+  unfolding opened
+  genuine-m3 e =
+      let passed = opened-only (openLengths (length secret) (length one) (length two) (length three) && same three (m3 secret one two)) (openedText n (clearText secret two)) e in
+      equal-same three (m3 secret one two) (both (openLengths (length secret) (length one) (length two) (length three)) (same three (m3 secret one two)) passed .1)
+
+  -- ---- right M3 and zero filler: these messages are built from what is handed back
+  pub opens : opened n secret one two three .genuine ≡ true → opened n secret one two three .zeros ≡ true
+      → Built n secret one two three (opened n secret one two three .counter) (opened n secret one two three .flags) (opened n secret one two three .key)
+  unfolding openedText
+  opens genuine zeros =
+      let e3 = genuine-m3 genuine in
+      let text = opened-text e3 in
+      subst (λ (o : Opened). Built n secret one two three (o .counter) (o .flags) (o .key)) (sym text) (of-text e3 (sym (ap (λ (o : Opened). o .zeros) text) ∙ zeros))
+    where
+      of-text : three ≡ m3 secret one two → openedText n (clearText secret two) .zeros ≡ true
+          → Built n secret one two three (openedText n (clearText secret two) .counter) (openedText n (clearText secret two) .flags) (openedText n (clearText secret two) .key)
+      of-text e3 zeros =
+          let clear : List ℕ = clearText secret two in
+          let block = first-clear secret hs two h2 in
+          let last = rest 1 clear (clear-text secret hs two h2) in
+          let filler = eqb-true (fillerOf n (take 16 clear)) 0 zeros in
+          record {
+            counter-fits = omega (arith, counter-read n few (take 16 clear) block);
+            flags-fit = flags-read n few (take 16 clear) block;
+            key-fits = record { long = last .long; small = last .small };
+            one = m1-parts one h1;
+            two = sym (m2-of-clear secret hs two h2 n few filler);
+            three = e3;
+          }
+
+  -- ---- messages that are built from some parts: M3 is right, the filler is zero, and these parts are handed back
+  pub handed-back : (c f : ℕ) (key : List ℕ) → Built n secret one two three c f key
+      → opened n secret one two three ≡ record { genuine = true; counter = c; flags = f; zeros = true; key = key }
+  handed-back c f key b =
+      let clear = ap (clearText secret) (b .two) ∙ clear-of-m2 secret hs n c f key (b .key-fits) in
+      opened-text (b .three) ∙ ap (openedText n) clear ∙ read n few c f key (omega (arith, b .counter-fits)) (b .flags-fit)
+
+  pub opens-exactly : ((opened n secret one two three .genuine ≡ true) × (opened n secret one two three .zeros ≡ true))
+      ↔ ((c : ℕ) × (f : ℕ) × (key : List ℕ) × Built n secret one two three c f key)
+  opens-exactly = (
+    λ h. (opened n secret one two three .counter, opened n secret one two three .flags, opened n secret one two three .key, opens (h .0) (h .1)),
+    λ some. let back = handed-back (some .0) (some .1) (some .2) (some .3) in (ap (λ (o : Opened). o .genuine) back, ap (λ (o : Opened). o .zeros) back),
+  )
+
+  pub parts-unique : (c f c′ f′ : ℕ) (key key′ : List ℕ) → Built n secret one two three c f key → Built n secret one two three c′ f′ key′
+      → (c ≡ c′) × (f ≡ f′) × (key ≡ key′)
+  parts-unique c f c′ f′ key key′ b b′ =
+      let same = sym (handed-back c f key b) ∙ handed-back c′ f′ key′ b′ in
+      (ap (λ (o : Opened). o .counter) same, ap (λ (o : Opened). o .flags) same, ap (λ (o : Opened). o .key) same)
+
+-- ---- building is one-to-one: M1 determines whom it names, and under one secret M2 determines what it carries
+pub m1-determines : (uid uid′ : List ℕ) (t a t′ a′ : ℕ) → length uid ≡ 15 → length uid′ ≡ 15 → a < 16 → a′ < 16 → m1 uid t a ≡ m1 uid′ t′ a′
+    → (uid ≡ uid′) × (t ≡ t′) × (a ≡ a′)
+m1-determines uid uid′ t a t′ a′ long long′ small small′ e = (
+  sym (uid-of-m1 uid t a long small) ∙ ap uidOf e ∙ uid-of-m1 uid′ t′ a′ long′ small′,
+  sym (target-of-m1 uid t a long small) ∙ ap targetOf e ∙ target-of-m1 uid′ t′ a′ long′ small′,
+  sym (authority-of-m1 uid t a long small) ∙ ap authorityOf e ∙ authority-of-m1 uid′ t′ a′ long′ small′,
+)
+
+pub m2-determines : (n : ℕ) → n ≤ 100 → (secret key key′ : List ℕ) (c f c′ f′ : ℕ) → Block secret → Block key → Block key′
+    → c < 2 ^ 28 → f < 2 ^ n → c′ < 2 ^ 28 → f′ < 2 ^ n → m2 n secret c f key ≡ m2 n secret c′ f′ key′
+    → (c ≡ c′) × (f ≡ f′) × (key ≡ key′)
+m2-determines n few secret key key′ c f c′ f′ hs hk hk′ hc hf hc′ hf′ e =
+    let clear = sym (clear-of-m2 secret hs n c f key hk) ∙ ap (clearText secret) e ∙ clear-of-m2 secret hs n c′ f′ key′ hk′ in
+    let same = sym (read n few c f key hc hf) ∙ ap (openedText n) clear ∙ read n few c′ f′ key′ hc′ hf′ in
+    (ap (λ (o : Opened). o .counter) same, ap (λ (o : Opened). o .flags) same, ap (λ (o : Opened). o .key) same)

@@ -1,0 +1,100 @@
+-- The outcomes of the writer: what an answer of 0 tells, and what is left by a refusal and by a success.
+-- Assumes nothing.
+use mathlib.Core.Path.{_≡_, refl, sym, ap, ap₂, _∙_}
+use mathlib.Core.Bool.{Bool, true, false, not, cond}
+use mathlib.Core.List.{List}
+use Prim.Native.Nat.{ℕ, _≤_, _<_}
+use native.Mathlib.Omega.{arith}
+use borrow.Author.Tests.{eq-eqb, ne-eqb, eqb-true, leb-true, not-false}
+use lib.Dec.{eqb, leb}
+use lib.ListN.{length}
+use Rattle.laws.proofs.Test.{both}
+use Rattle.message.specs.Answer.{written}
+use Rattle.message.specs.Flags.{flagCount}
+use Rattle.message.specs.FirstBlock.{maxCounter}
+use Rattle.message.specs.Messages.{m1, m2, m3, m4, m5}
+use Rattle.message.specs.Slots.{allowed}
+use Rattle.message.specs.Writer.{messageLengths, messageAnswer, fullForm, proofLengths, answerForm}
+
+-- ---- an answer of 0
+-- a check that answers no 0 has found no fault, and neither has any after it
+no-fault : (fault : Bool) (number rest : ℕ) → (number ≡ 0 → ⊥) → cond fault number rest ≡ 0 → (fault ≡ false) × (rest ≡ 0)
+no-fault true number rest other e = absurd (other e)
+no-fault false number rest other e = (refl, e)
+
+pub no-faults : (lengths : Bool) (c f t a : ℕ) → messageAnswer lengths c f t a ≡ 0
+    → (lengths ≡ true) × (c ≤ maxCounter) × (f < 32) × (allowed t a ≡ true)
+unfolding messageAnswer
+no-faults lengths c f t a e =
+    let one = no-fault (not lengths) 12 _ (λ z. omega arith) e in
+    let two = no-fault (not (leb c maxCounter)) 12 _ (λ z. omega arith) (one .1) in
+    let three = no-fault (not (leb f 31)) 12 _ (λ z. omega arith) (two .1) in
+    let four = no-fault (not (allowed t a)) 3 0 (λ z. omega arith) (three .1) in
+    let flags = leb-true f 31 (not-false _ (three .0)) in
+    (not-false _ (one .0), leb-true _ _ (not-false _ (two .0)), omega (arith, flags), not-false _ (four .0))
+
+pub message-lengths-facts : (uid secret key first second third : ℕ) → messageLengths uid secret key first second third ≡ true
+    → (uid ≡ 15) × (secret ≡ 16) × (key ≡ 16) × (first ≡ 16) × (second ≡ 32) × (third ≡ 16)
+unfolding messageLengths
+message-lengths-facts uid secret key first second third h =
+    let e = both _ (eqb third 16) h in
+    let d = both _ (eqb second 32) (e .0) in
+    let c = both _ (eqb first 16) (d .0) in
+    let b = both _ (eqb key 16) (c .0) in
+    let a = both (eqb uid 15) (eqb secret 16) (b .0) in
+    (eqb-true _ _ (a .0), eqb-true _ _ (a .1), eqb-true _ _ (b .1), eqb-true _ _ (c .1), eqb-true _ _ (d .1), eqb-true _ _ (e .1))
+
+pub proof-lengths-facts : (uid key fourth fifth : ℕ) → proofLengths uid key fourth fifth ≡ true
+    → (uid ≡ 15) × (key ≡ 16) × (fourth ≡ 32) × (fifth ≡ 16)
+unfolding proofLengths
+proof-lengths-facts uid key fourth fifth h =
+    let c = both _ (eqb fifth 16) h in
+    let b = both _ (eqb fourth 32) (c .0) in
+    let a = both (eqb uid 15) (eqb key 16) (b .0) in
+    (eqb-true _ _ (a .0), eqb-true _ _ (a .1), eqb-true _ _ (b .1), eqb-true _ _ (c .1))
+
+-- ---- a buffer
+pub unwritten : (answer : ℕ) (result before : List ℕ) → (answer ≡ 0 → ⊥) → before ≡ written answer result before
+unfolding written
+unwritten answer result before h = sym (ap (λ (b : Bool). cond b result before) (ne-eqb answer 0 h))
+
+pub is-written : (answer : ℕ) (result before : List ℕ) → answer ≡ 0 → result ≡ written answer result before
+unfolding written
+is-written answer result before h = sym (ap (λ (b : Bool). cond b result before) (eq-eqb answer 0 h))
+
+-- ---- the full form
+module _ (uid secret key b1 b2 b3 : List ℕ) (t a c f answer : ℕ)
+    (e : answer ≡ messageAnswer (messageLengths (length uid) (length secret) (length key) (length b1) (length b2) (length b3)) c f t a) where
+  pub messages-refused : (answer ≡ 0 → ⊥)
+      → (answer ≡ fullForm uid t a secret c f key b1 b2 b3 .answer) × ((b1 ≡ fullForm uid t a secret c f key b1 b2 b3 .m1)
+      × ((b2 ≡ fullForm uid t a secret c f key b1 b2 b3 .m2) × (b3 ≡ fullForm uid t a secret c f key b1 b2 b3 .m3)))
+  unfolding fullForm
+  messages-refused h =
+      let other : messageAnswer (messageLengths (length uid) (length secret) (length key) (length b1) (length b2) (length b3)) c f t a ≡ 0 → ⊥
+      = λ z. h (e ∙ z) in
+      (e, (unwritten _ _ _ other, (unwritten _ _ _ other, unwritten _ _ _ other)))
+
+  pub messages-written : (a1 a2 a3 : List ℕ) → answer ≡ 0 → a1 ≡ m1 uid t a → a2 ≡ m2 flagCount secret c f key → a3 ≡ m3 secret a1 a2
+      → (0 ≡ fullForm uid t a secret c f key b1 b2 b3 .answer) × ((a1 ≡ fullForm uid t a secret c f key b1 b2 b3 .m1)
+      × ((a2 ≡ fullForm uid t a secret c f key b1 b2 b3 .m2) × (a3 ≡ fullForm uid t a secret c f key b1 b2 b3 .m3)))
+  unfolding fullForm
+  messages-written a1 a2 a3 h e1 e2 e3 =
+      let done = sym e ∙ h in
+      (sym done, (e1 ∙ is-written _ _ _ done, (e2 ∙ is-written _ _ _ done, e3 ∙ ap₂ (m3 secret) e1 e2 ∙ is-written _ _ _ done)))
+
+-- ---- the device's proof
+module _ (uid key b4 b5 : List ℕ) (t a c answer : ℕ)
+    (e : answer ≡ messageAnswer (proofLengths (length uid) (length key) (length b4) (length b5)) c 0 t a) where
+  pub proof-refused : (answer ≡ 0 → ⊥)
+      → (answer ≡ answerForm uid t a c key b4 b5 .answer) × ((b4 ≡ answerForm uid t a c key b4 b5 .m4) × (b5 ≡ answerForm uid t a c key b4 b5 .m5))
+  unfolding answerForm
+  proof-refused h =
+      let other : messageAnswer (proofLengths (length uid) (length key) (length b4) (length b5)) c 0 t a ≡ 0 → ⊥ = λ z. h (e ∙ z) in
+      (e, (unwritten _ _ _ other, unwritten _ _ _ other))
+
+  pub proof-written : (a4 a5 : List ℕ) → answer ≡ 0 → a4 ≡ m4 uid t a c key → a5 ≡ m5 key a4
+      → (0 ≡ answerForm uid t a c key b4 b5 .answer) × ((a4 ≡ answerForm uid t a c key b4 b5 .m4) × (a5 ≡ answerForm uid t a c key b4 b5 .m5))
+  unfolding answerForm
+  proof-written a4 a5 h e4 e5 =
+      let done = sym e ∙ h in
+      (sym done, (e4 ∙ is-written _ _ _ done, e5 ∙ ap (m5 key) e4 ∙ is-written _ _ _ done))

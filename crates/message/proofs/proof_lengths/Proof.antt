@@ -1,0 +1,13 @@
+-- `message::proof_lengths` meets its contract as it stands.
+-- Assumes nothing.
+use mathlib.Core.Path.{refl}
+use Rattle.message.specs.Writer.{proofLengths}
+use Rattle.message.proofs.proof_lengths.Statement.{statement}
+use Rattle.message.proofs.proof_lengths.Tie as tie
+
+returns : tie.Need-returns
+unfolding proofLengths
+returns c = refl
+
+pub proof-lengths-spec : {M : Type 1} → statement M
+proof-lengths-spec = tie.close (tie.spec returns)

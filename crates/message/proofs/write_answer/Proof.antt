@@ -1,0 +1,82 @@
+-- `message::write_answer` meets its contract, from the answer and from those of what it calls.
+-- Assumes nothing.
+use mathlib.Core.Bool.{Bool, true}
+use mathlib.Core.List.{[], _∷_, _++_}
+use mathlib.Core.Path.{_≡_, sym, ap, _∙_}
+use Prim.Native.Nat.{ℕ, _≤_, _<_}
+use native.Mathlib.Omega.{arith}
+use lib.ListN.{length}
+use borrow.Author.Needs.{needs}
+use Rattle.aes.specs.Cipher.{cipher}
+use Rattle.message.proofs.Slots.{pair-slots}
+use Rattle.message.proofs.Written.{no-faults, proof-lengths-facts, proof-refused, proof-written}
+use Rattle.message.specs.FirstBlock.{maxCounter, proofBlock}
+use Rattle.message.specs.Messages.{encKey, m1, m4}
+use Rattle.message.specs.Slots.{allowed}
+use Rattle.message.specs.Writer.{messageAnswer, proofLengths}
+use Rattle.message.proofs.write_answer.Statement.{statement}
+use Rattle.message.proofs.write_answer.Tie as tie
+
+-- the answer, and what is known past it
+answer : (c : tie.After-message-answer) → let a = c .before .before .before .before .before .before .args in c .message-answer .result ≡ messageAnswer (proofLengths (length (a .uid .now)) (length (a .key .now)) (length (a .m4 .now)) (length (a .m5 .now))) (a .counter) 0 (a .target) (a .authority)
+answer c = let a = c .before .before .before .before .before .before .args in
+    c .message-answer .ensures ∙ ap (λ (l : Bool). messageAnswer l (a .counter) 0 (a .target) (a .authority)) (c .before .proof-lengths .ensures)
+
+module _ (c : tie.Else1) where
+  rules : let a = c .before .before .before .before .before .before .before .args in (proofLengths (length (a .uid .now)) (length (a .key .now)) (length (a .m4 .now)) (length (a .m5 .now)) ≡ true) × (a .counter ≤ maxCounter) × (0 < 32) × (allowed (a .target) (a .authority) ≡ true)
+  rules = no-faults _ _ _ _ _ (sym (answer (c .before)) ∙ c .if1 .left)
+
+  lengths : let a = c .before .before .before .before .before .before .before .args in (length (a .uid .now) ≡ 15) × (length (a .key .now) ≡ 16) × (length (a .m4 .now) ≡ 32) × (length (a .m5 .now) ≡ 16)
+  lengths = proof-lengths-facts _ _ _ _ (rules .0)
+
+proof-lengths-requires : tie.Need-proof-lengths-requires
+proof-lengths-requires c κs = search needs
+
+message-answer-requires : tie.Need-message-answer-requires
+message-answer-requires c κs = search needs
+
+returns : tie.Need-returns
+returns c = let a = c .before .before .before .before .before .before .before .args in
+    proof-refused (a .uid .now) (a .key .now) (a .m4 .now) (a .m5 .now) (a .target) (a .authority) (a .counter) _ (answer (c .before)) (c .if1 .taken)
+
+slot-byte-requires : tie.Need-slot-byte-requires
+slot-byte-requires c κs = let s = pair-slots _ _ (rules c .3) in (omega (arith, s), omega (arith, s))
+
+write-m4-requires : tie.Need-write-m4-requires
+write-m4-requires c κs = let o = c .before .before in
+    let l = lengths o in
+    (l .0, rules o .1, l .1, l .2)
+
+write-m5-requires : tie.Need-write-m5-requires
+write-m5-requires c κs = let l = lengths (c .before .before .before .before .before .before .before) in (l .1, omega (arith, l), l .3)
+
+same-length : tie.Need-same-length
+same-length c = search needs
+
+same-length-2 : tie.Need-same-length-2
+same-length-2 c = search needs
+
+returns-2 : tie.Need-returns-2
+unfolding m4 m1
+returns-2 c = let w5 = c .before .before in
+    let w4 = w5 .before .before .before .before .before in
+    let b = w4 .before .before in
+    let o = b .before in
+    let a = o .before .before .before .before .before .before .before .args in
+    let fourth = w4 .write-m4 .ensures ∙ ap (λ (s : ℕ). (a .uid .now ++ (s ∷ [])) ++ cipher (encKey (a .key .now)) (proofBlock (a .counter))) (b .slot-byte .ensures) in
+    proof-written (a .uid .now) (a .key .now) (a .m4 .now) (a .m5 .now) (a .target) (a .authority) (a .counter) _ (answer (o .before))
+    (w4 .write-m4 .last .1 .1 .1 .1 .0) (w5 .write-m5 .last .1 .1 .0) (o .if1 .left) fourth (w5 .write-m5 .ensures)
+
+pub write-answer-spec : {M : Type 1} → statement M
+write-answer-spec =
+    tie.close
+    (tie.spec
+    proof-lengths-requires
+    message-answer-requires
+    returns
+    slot-byte-requires
+    write-m4-requires
+    write-m5-requires
+    same-length
+    same-length-2
+    returns-2)

@@ -1,0 +1,71 @@
+-- The writer of key messages on the sender's side: what each of its forms leaves, for buffers of any lengths and any numbers.
+-- Assumes nothing.
+use mathlib.Core.Bool.{Bool, not, _&&_}
+use mathlib.Core.List.{List, [], _∷_}
+use Prim.Native.Nat.{ℕ, _-_, _^_}
+use lib.Dec.{eqb, leb}
+use lib.ListN.{length, replicate}
+use Rattle.modes.specs.Answer.{generalError}
+use Rattle.message.specs.Answer.{keyInvalid, firstFault, written}
+use Rattle.message.specs.Flags.{flagCount}
+use Rattle.message.specs.FirstBlock.{maxCounter}
+use Rattle.message.specs.Messages.{m1, m2, m3, m4, m5}
+use Rattle.message.specs.Slots.{allowed}
+
+-- UID' 15 bytes, the two keys 16 each; M1, M2 and M3 have room for 16, 32 and 16
+unfoldable pub messageLengths : ℕ → ℕ → ℕ → ℕ → ℕ → ℕ → Bool
+messageLengths uid secret key m1 m2 m3 =
+    eqb uid 15 && eqb secret 16 && eqb key 16 && eqb m1 16 && eqb m2 32 && eqb m3 16
+
+-- in the order 12, 3: a wrong length, a counter above 268,435,455, flags above 31; a pair that is not allowed
+unfoldable pub messageAnswer : Bool → ℕ → ℕ → ℕ → ℕ → ℕ
+messageAnswer lengths counter flags target authority =
+    firstFault
+    ((not lengths, generalError)
+    ∷ (not (leb counter maxCounter), generalError)
+    ∷ (not (leb flags (2 ^ flagCount - 1)), generalError)
+    ∷ (not (allowed target authority), keyInvalid)
+    ∷ [])
+
+-- what is left: the answer, and the three buffers
+pub record Messages : Type 0 where
+  pub answer : ℕ
+  pub m1 : List ℕ
+  pub m2 : List ℕ
+  pub m3 : List ℕ
+
+-- the full form
+unfoldable pub fullForm : List ℕ → ℕ → ℕ → List ℕ → ℕ → ℕ → List ℕ → List ℕ → List ℕ → List ℕ → Messages
+fullForm uid target authority secret counter flags key before1 before2 before3 =
+    let answer = messageAnswer (messageLengths (length uid) (length secret) (length key) (length before1) (length before2) (length before3)) counter flags target authority in
+    let first = m1 uid target authority in
+    let second = m2 flagCount secret counter flags key in
+    record { answer = answer; m1 = written answer first before1; m2 = written answer second before2; m3 = written answer (m3 secret first second) before3 }
+
+-- the short form: no flags are asked for, and 00000 is written
+abbrev pub shortFlags : ℕ
+shortFlags = 0
+
+abbrev pub shortForm : List ℕ → ℕ → ℕ → List ℕ → ℕ → List ℕ → List ℕ → List ℕ → List ℕ → Messages
+shortForm uid target authority secret counter key = fullForm uid target authority secret counter shortFlags key
+
+-- the fleet sheet: the short form with a UID' of zeros
+abbrev pub fleetSheet : ℕ → ℕ → List ℕ → ℕ → List ℕ → List ℕ → List ℕ → List ℕ → Messages
+fleetSheet target authority secret counter key = shortForm (replicate 15 0) target authority secret counter key
+
+-- ---- the proof that a device of a UID answers
+-- UID 15 bytes, the new key 16; M4 and M5 have room for 32 and 16
+unfoldable pub proofLengths : ℕ → ℕ → ℕ → ℕ → Bool
+proofLengths uid key m4 m5 = eqb uid 15 && eqb key 16 && eqb m4 32 && eqb m5 16
+
+pub record Proof : Type 0 where
+  pub answer : ℕ
+  pub m4 : List ℕ
+  pub m5 : List ℕ
+
+-- the same order of checks; there are no flags in it
+unfoldable pub answerForm : List ℕ → ℕ → ℕ → ℕ → List ℕ → List ℕ → List ℕ → Proof
+answerForm uid target authority counter key before4 before5 =
+    let answer = messageAnswer (proofLengths (length uid) (length key) (length before4) (length before5)) counter 0 target authority in
+    let fourth = m4 uid target authority counter key in
+    record { answer = answer; m4 = written answer fourth before4; m5 = written answer (m5 key fourth) before5 }
