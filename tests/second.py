@@ -204,3 +204,68 @@ def derive(key, number):
 
 def extend(seed, entropy):
     return compressed(bytes(16), preprocessed(seed + entropy))
+
+
+# ---- slots and key messages, from SHE's specification: sets of slots, and strings of bits. The writer gives its answer and what
+# its buffers then hold; 12 is a wrong length or number, 3 a pair that is not allowed, and both leave them as they were.
+
+KEYS = range(4, 14)
+KINDS = {0: 0, 1: 1, 2: 2, 3: 3, **{n: 4 for n in KEYS}, 14: 5}  # any other is no slot, 6
+CIPHERS = {*KEYS, 14}
+VERIFIERS = CIPHERS | {2}
+FLAGS = {"WRITE": 16, "BOOT": 8, "DEBUGGER": 4, "KEY_USAGE": 2, "WILDCARD": 1}
+WITHOUT = {1: {"KEY_USAGE"}, 2: {"BOOT", "KEY_USAGE"}, 3: {"BOOT", "KEY_USAGE"}, **{n: set() for n in KEYS}}
+AUTHORITIES = {1: {1}, 2: {1, 2}, 3: {1, 2}, **{n: {1, n} for n in KEYS}, 14: {0, *KEYS}}
+
+
+def slot(target, authority):
+    """Kind, roles and flags of a slot, and whether it may be loaded by the other."""
+    kept = sum(FLAGS[name] for name in set(FLAGS) - WITHOUT.get(target, set(FLAGS)))
+    roles = [target in CIPHERS, target in CIPHERS, target in VERIFIERS]
+    return bytes([KINDS.get(target, 6), *roles, kept, authority in AUTHORITIES.get(target, ())])
+
+
+def packed(*fields):
+    """Numbers in so many bits each, filled up with zeros to a block."""
+    string = "".join(f"{value:0{width}b}" for value, width in fields).ljust(128, "0")
+    return int(string, 2).to_bytes(16, "big")
+
+
+def sealed(secret, m1, clear):
+    """M1 to M3 around any clear text."""
+    m2 = cbc_encrypt(derive(secret, 1), bytes(16), clear, clear)[1]
+    return m1, m2, cmac(derive(secret, 2), 384, m1 + m2, bytes(16))[1]
+
+
+def refusal(lengths, right, counter, flags, target, authority):
+    if lengths != right or counter > 268435455 or flags > 31:
+        return 12
+    return 0 if authority in AUTHORITIES.get(target, ()) else 3
+
+
+def write_key(uid, target, authority, secret, counter, flags, key, *buffers):
+    lengths = [len(data) for data in (uid, secret, key, *buffers)]
+    answer = refusal(lengths, [15, 16, 16, 16, 32, 16], counter, flags, target, authority)
+    if answer:
+        return answer, buffers
+    return 0, sealed(secret, uid + bytes([16 * target + authority]), packed((counter, 28), (flags, 5)) + key)
+
+
+def write_answer(uid, target, authority, counter, key, *buffers):
+    lengths = [len(data) for data in (uid, key, *buffers)]
+    answer = refusal(lengths, [15, 16, 32, 16], counter, 0, target, authority)
+    if answer:
+        return answer, buffers
+    m4 = uid + bytes([16 * target + authority]) + encrypt(derive(key, 1), packed((counter, 28), (1, 1)))
+    return 0, (m4, cmac(derive(key, 2), 256, m4, bytes(16))[1])
+
+
+def open_messages(secret, m1, m2, m3):
+    """Whether M3 is right, and then counter, flags, whether the filler is zero, and the key."""
+    if [len(data) for data in (secret, m1, m2, m3)] != [16, 16, 32, 16]:
+        return 0, 0, 0, 0, bytes(16)
+    if cmac(derive(secret, 2), 384, m1 + m2, bytes(16))[1] != m3:
+        return 0, 0, 0, 0, bytes(16)
+    clear = cbc_decrypt(derive(secret, 1), bytes(16), m2, m2)[1]
+    string = f"{integer(clear[:16]):0128b}"
+    return 1, int(string[:28], 2), int(string[28:33], 2), int("1" not in string[33:]), clear[16:]

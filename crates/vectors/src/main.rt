@@ -24,6 +24,17 @@
 //     R key / bits / block / count / output    the same, of a message that is so many times the block
 //     H state / text / output          the compression carried on from a state
 //     F key / constant / output        KDF
+//
+// Key messages, with numbers in up to 8 bytes; a number that is too large for its parameter is taken as the largest there is. The
+// writer leaves an answer and M1, M2, M3, or M4 and M5.
+//
+//     W uid / target / authority / secret / counter / flags / key / m1 / m2 / m3   the full form
+//     w the same                       the short form, which has no flags
+//     f the same                       the fleet sheet, which has no uid and no flags
+//     A uid / target / authority / counter / key / m4 / m5    the answer
+//     O secret / m1 / m2 / m3          opened: whether M3 is right, counter, flags, whether the filler is zero, key
+//     P target / authority             the target's kind, its three roles, the flags that it keeps; whether the pair is allowed
+//     B byte                           target and authority of a slot byte
 ghost use Prim.Native.Nat.{_+_, _≤_, _<_};
 ghost use lib.ListN.{length};
 use libc::STDIN_FILENO;
@@ -337,6 +348,159 @@ fn cmac_repeated(line: &[u8]) {
     mac(line, 4, front(&message, size_of(number(line, 3))));
 }
 
+// ---- key messages
+
+// How many bytes an operand of a key message can have.
+const MESSAGE_ROOM: usize = 64;
+
+// A number for a parameter of 8 bits, or of 32: too large a one becomes the largest.
+fn byte_of(value: u64) -> u8 {
+    if value < 256 { value as u8 } else { 255 }
+}
+
+fn word_of(value: u64) -> u32 {
+    if value < 0x100000000 {
+        value as u32
+    } else {
+        0xffffffff
+    }
+}
+
+// The three forms of the writer, with the buffers for the messages lent.
+fn write_form(routine: u8, line: &[u8], m1: &mut [u8], m2: &mut [u8], m3: &mut [u8]) -> u8 {
+    let mut uid_room = [0u8; MESSAGE_ROOM];
+    let mut secret_room = [0u8; MESSAGE_ROOM];
+    let mut key_room = [0u8; MESSAGE_ROOM];
+    let uid_size = operand(line, 0, &mut uid_room) / 2;
+    let secret_size = operand(line, 3, &mut secret_room) / 2;
+    let key_size = operand(line, 6, &mut key_room) / 2;
+    let uid = front(&uid_room, uid_size);
+    let secret = front(&secret_room, secret_size);
+    let key = front(&key_room, key_size);
+    let target = byte_of(number(line, 1));
+    let authority = byte_of(number(line, 2));
+    let counter = word_of(number(line, 4));
+    let flags = byte_of(number(line, 5));
+    match routine {
+        b'W' => message::write_key(
+            uid,
+            target,
+            authority,
+            secret,
+            counter,
+            flags,
+            key,
+            m1,
+            m2,
+            m3,
+        ),
+        b'w' => message::write_key_short(uid, target, authority, secret, counter, key, m1, m2, m3),
+        _ => message::fleet_sheet(target, authority, secret, counter, key, m1, m2, m3),
+    }
+}
+
+fn messages(routine: u8, line: &[u8]) {
+    let mut room_1 = [0u8; MESSAGE_ROOM];
+    let mut room_2 = [0u8; MESSAGE_ROOM];
+    let mut room_3 = [0u8; MESSAGE_ROOM];
+    let size_1 = operand(line, 7, &mut room_1) / 2;
+    let size_2 = operand(line, 8, &mut room_2) / 2;
+    let size_3 = operand(line, 9, &mut room_3) / 2;
+    let m1 = front_mut(&mut room_1, size_1);
+    let m2 = front_mut(&mut room_2, size_2);
+    let m3 = front_mut(&mut room_3, size_3);
+    let answer = write_form(routine, line, m1, m2, m3);
+    write_outcome(answer, m1);
+    write_bytes(m2);
+    write_bytes(m3);
+}
+
+fn answer(line: &[u8]) {
+    let mut uid = [0u8; MESSAGE_ROOM];
+    let mut key = [0u8; MESSAGE_ROOM];
+    let mut room_4 = [0u8; MESSAGE_ROOM];
+    let mut room_5 = [0u8; MESSAGE_ROOM];
+    let uid_size = operand(line, 0, &mut uid) / 2;
+    let key_size = operand(line, 4, &mut key) / 2;
+    let size_4 = operand(line, 5, &mut room_4) / 2;
+    let size_5 = operand(line, 6, &mut room_5) / 2;
+    let m4 = front_mut(&mut room_4, size_4);
+    let m5 = front_mut(&mut room_5, size_5);
+    let number = message::write_answer(
+        front(&uid, uid_size),
+        byte_of(number(line, 1)),
+        byte_of(number(line, 2)),
+        word_of(number(line, 3)),
+        front(&key, key_size),
+        m4,
+        m5,
+    );
+    write_outcome(number, m4);
+    write_bytes(m5);
+}
+
+fn bytes_of(word: u32) -> [u8; 4] {
+    [
+        (word >> 24) as u8,
+        ((word >> 16) % 256) as u8,
+        ((word >> 8) % 256) as u8,
+        (word % 256) as u8,
+    ]
+}
+
+fn open(line: &[u8]) {
+    let mut secret = [0u8; MESSAGE_ROOM];
+    let mut m1 = [0u8; MESSAGE_ROOM];
+    let mut m2 = [0u8; MESSAGE_ROOM];
+    let mut m3 = [0u8; MESSAGE_ROOM];
+    let secret_size = operand(line, 0, &mut secret) / 2;
+    let size_1 = operand(line, 1, &mut m1) / 2;
+    let size_2 = operand(line, 2, &mut m2) / 2;
+    let size_3 = operand(line, 3, &mut m3) / 2;
+    let opened = message::open(
+        front(&secret, secret_size),
+        front(&m1, size_1),
+        front(&m2, size_2),
+        front(&m3, size_3),
+    );
+    write_bytes(&[opened.genuine as u8]);
+    write_bytes(&bytes_of(opened.counter));
+    write_bytes(&[opened.flags, opened.zeros as u8]);
+    write_bytes(&opened.key);
+}
+
+fn kind_number(slot: u8) -> u8 {
+    match message::kind_of(slot) {
+        message::Kind::SecretKey => 0,
+        message::Kind::MasterEcuKey => 1,
+        message::Kind::BootMacKey => 2,
+        message::Kind::BootMac => 3,
+        message::Kind::KeyN => 4,
+        message::Kind::RamKey => 5,
+        message::Kind::NoSlot => 6,
+    }
+}
+
+fn slots(line: &[u8]) {
+    let target = byte_of(number(line, 0));
+    let authority = byte_of(number(line, 1));
+    write_bytes(
+        &[
+            kind_number(target),
+            message::has_role(target, message::Role::Cipher) as u8,
+            message::has_role(target, message::Role::GenerateMac) as u8,
+            message::has_role(target, message::Role::VerifyMac) as u8,
+            message::flags_kept(target),
+            message::is_allowed(target, authority) as u8,
+        ],
+    );
+}
+
+fn slot_byte(line: &[u8]) {
+    let byte = byte_of(number(line, 0));
+    write_bytes(&[message::target_of(byte), message::authority_of(byte)]);
+}
+
 fn run_line(line: &[u8]) {
     if line.len() == 0 || line[0] == b'#' {
         io::write_all(STDOUT_FILENO, line);
@@ -355,6 +519,11 @@ fn run_line(line: &[u8]) {
         b'L' => cbc_repeated(operands),
         b'M' => cmac(operands),
         b'R' => cmac_repeated(operands),
+        b'W' | b'w' | b'f' => messages(routine, operands),
+        b'A' => answer(operands),
+        b'O' => open(operands),
+        b'P' => slots(operands),
+        b'B' => slot_byte(operands),
         _ => no_such_vector(),
     }
 }
