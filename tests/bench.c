@@ -1,9 +1,10 @@
-/* Our AES-128 and its modes beside BearSSL's and libtomcrypt's, in one run.
+/* Our AES-128, its modes and key messages beside BearSSL's and libtomcrypt's, in one run.
  *
  * All of them are checked to give the same bytes first. Each figure is the best of ROUNDS rounds, and each round measures
  * everything once, so that a slow moment of the machine falls on all alike. Blocks are chained, each the input of the next.
  * BearSSL has no call for one block: its CBC over 64 KiB stands in, which adds an exclusive or of 16 bytes a block. It has no
- * CMAC either, and its CBC-MAC stands in, which leaves out the subkeys, two blocks in 4,096. */
+ * CMAC either, and its CBC-MAC stands in, which leaves out the subkeys, two blocks in 4,096. A key message is made of the
+ * peers' blocks and key schedules here, in 10 and 6 of them, which is the least that M1 to M3 take. */
 #include <bearssl.h>
 #include <stdint.h>
 #include <stdio.h>
@@ -12,7 +13,7 @@
 #include <time.h>
 #include <tomcrypt.h>
 
-enum { BLOCKS = 4096, ROUNDS = 30 };
+enum { BLOCKS = 4096, MESSAGES = 256, ROUNDS = 30 };
 
 void bench_schedule(const uint8_t key[16], uint8_t schedule[176]);
 void bench_encrypt(const uint8_t schedule[176], const uint8_t block[16], uint8_t out[16]);
@@ -24,6 +25,9 @@ uint8_t bench_cbc_decrypt(const uint8_t *key, size_t key_len, const uint8_t *iv,
                           uint8_t *out, size_t out_len);
 uint8_t bench_cmac(const uint8_t *key, size_t key_len, uint64_t bits, const uint8_t *message, size_t message_len, uint8_t *out,
                    size_t out_len);
+uint8_t bench_write_key(const uint8_t *uid, size_t uid_len, uint8_t target, uint8_t authority, const uint8_t *secret, size_t secret_len,
+                        uint32_t counter, uint8_t flags, const uint8_t *new_key, size_t new_key_len, uint8_t *m1, size_t m1_len,
+                        uint8_t *m2, size_t m2_len, uint8_t *m3, size_t m3_len);
 
 static uint8_t key[16], iv[16], text[16 * BLOCKS], other_text[16 * BLOCKS], schedule[176], mac[16];
 static br_aes_small_cbcenc_keys small_enc;
@@ -131,20 +135,116 @@ static void tom_keyed(void)
     }
 }
 
+/* ---- a key message: M1 to M3 one after the other, for slot 4 by slot 1, and the new key is then the authority's */
+
+static uint8_t messages[64], secret[16];
+
+static void our_message(void)
+{
+    for (int i = 0; i < MESSAGES; i++) {
+        bench_write_key(iv, 15, 4, 1, secret, 16, (uint32_t)i, i % 32, key, 16, messages, 16, messages + 16, 32, messages + 48, 16);
+        memcpy(secret, messages + 48, 16);
+    }
+}
+
+struct engine {
+    void (*set)(const uint8_t key[16]);
+    void (*block)(uint8_t block[16]);
+};
+
+static void add(uint8_t to[16], const uint8_t other[16])
+{
+    for (int i = 0; i < 16; i++)
+        to[i] ^= other[i];
+}
+
+static void peer_kdf(const struct engine *e, const uint8_t from[16], uint8_t number, uint8_t out[16])
+{
+    const uint8_t constant[16] = {1, number, 0x53, 0x48, 0x45, 0, 0x80, 0, 0, 0, 0, 0, 0, 0, 0, 0xb0};
+    const uint8_t *parts[2] = {from, constant};
+    memset(out, 0, 16);
+    for (int i = 0; i < 2; i++) {
+        uint8_t c[16];
+        memcpy(c, parts[i], 16);
+        e->set(out);
+        e->block(c);
+        add(out, c);
+        add(out, parts[i]);
+    }
+}
+
+static void peer_write(const struct engine *e, uint32_t counter, uint8_t flags, uint8_t m[64])
+{
+    uint64_t head = (uint64_t)counter << 12 | (uint64_t)flags << 7;
+    uint8_t k1[16], k2[16], subkey[16] = {0};
+    peer_kdf(e, secret, 1, k1);
+    peer_kdf(e, secret, 2, k2);
+    memcpy(m, iv, 15);
+    m[15] = 0x41;
+    memset(m + 16, 0, 16);
+    for (int i = 0; i < 5; i++)
+        m[16 + i] = (uint8_t)(head >> 8 * (4 - i));
+    memcpy(m + 32, key, 16);
+    e->set(k1);
+    e->block(m + 16);
+    add(m + 32, m + 16);
+    e->block(m + 32);
+    e->set(k2);
+    e->block(subkey);
+    uint8_t carry = subkey[0] >> 7;
+    for (int i = 0; i < 16; i++)
+        subkey[i] = (uint8_t)(subkey[i] << 1 | (i < 15 ? subkey[i + 1] >> 7 : 0));
+    subkey[15] ^= carry * 0x87;
+    memset(m + 48, 0, 16);
+    for (int i = 0; i < 3; i++) {
+        add(m + 48, m + 16 * i);
+        if (i == 2)
+            add(m + 48, subkey);
+        e->block(m + 48);
+    }
+}
+
+static void peer_messages(const struct engine *e)
+{
+    for (int i = 0; i < MESSAGES; i++) {
+        peer_write(e, (uint32_t)i, i % 32, messages);
+        memcpy(secret, messages + 48, 16);
+    }
+}
+
+#define ENGINE(kind)                                                                              \
+    static void kind##_set(const uint8_t k[16]) { br_aes_##kind##_cbcenc_init(&kind##_enc, k, 16); } \
+    static void kind##_block(uint8_t block[16])                                                   \
+    {                                                                                             \
+        uint8_t zero[16] = {0};                                                                   \
+        br_aes_##kind##_cbcenc_run(&kind##_enc, zero, block, 16);                                 \
+    }                                                                                             \
+    static const struct engine kind##_engine = {kind##_set, kind##_block};                        \
+    static void kind##_message(void) { peer_messages(&kind##_engine); }
+ENGINE(small)
+ENGINE(big)
+
+static void tom_set(const uint8_t k[16]) { aes_setup(k, 16, 0, &tom); }
+static void tom_block(uint8_t block[16]) { aes_ecb_encrypt(block, block, &tom); }
+static const struct engine tom_engine = {tom_set, tom_block};
+static void tom_message(void) { peer_messages(&tom_engine); }
+
 enum { OURS, SMALL, BIG, TOM, WHO };
-enum { ENCRYPT, DECRYPT, SCHEDULE, KEYED, CBC_ENCRYPT, CBC_DECRYPT, CMAC, WORK };
+enum { ENCRYPT, DECRYPT, SCHEDULE, KEYED, CBC_ENCRYPT, CBC_DECRYPT, CMAC, MESSAGE, WORK };
 
 static const struct {
     const char *name;
+    int count;
     void (*run[WHO])(void);
 } work[WORK] = {
-    [ENCRYPT] = {"encrypt a block", {our_encrypt, small_encrypt, big_encrypt, tom_encrypt}},
-    [DECRYPT] = {"decrypt a block", {our_decrypt, small_decrypt, big_decrypt, tom_decrypt}},
-    [SCHEDULE] = {"key schedule", {our_schedule, small_schedule, big_schedule, tom_schedule}},
-    [KEYED] = {"schedule and encrypt", {our_keyed, small_keyed, big_keyed, tom_keyed}},
-    [CBC_ENCRYPT] = {"CBC encrypt, a block", {our_cbc_encrypt, small_encrypt, big_encrypt, tom_cbc_encrypt}},
-    [CBC_DECRYPT] = {"CBC decrypt, a block", {our_cbc_decrypt, small_decrypt, big_decrypt, tom_cbc_decrypt}},
-    [CMAC] = {"CMAC, a block", {our_cmac, small_cmac, big_cmac, tom_cmac}},
+    [ENCRYPT] = {"encrypt a block", BLOCKS, {our_encrypt, small_encrypt, big_encrypt, tom_encrypt}},
+    [DECRYPT] = {"decrypt a block", BLOCKS, {our_decrypt, small_decrypt, big_decrypt, tom_decrypt}},
+    [SCHEDULE] = {"key schedule", BLOCKS, {our_schedule, small_schedule, big_schedule, tom_schedule}},
+    [KEYED] = {"schedule and encrypt", BLOCKS, {our_keyed, small_keyed, big_keyed, tom_keyed}},
+    [CBC_ENCRYPT] = {"CBC encrypt, a block", BLOCKS, {our_cbc_encrypt, small_encrypt, big_encrypt, tom_cbc_encrypt}},
+    [CBC_DECRYPT] = {"CBC decrypt, a block", BLOCKS, {our_cbc_decrypt, small_decrypt, big_decrypt, tom_cbc_decrypt}},
+    [CMAC] = {"CMAC, a block", BLOCKS, {our_cmac, small_cmac, big_cmac, tom_cmac}},
+    [MESSAGE] = {"a key message", MESSAGES, {our_message, small_message, big_message, tom_message}},
 };
 
 /* ---- the same bytes from all */
@@ -180,6 +280,17 @@ static void check_modes(size_t bytes)
     must_agree_all("CBC decrypt, libtomcrypt", ours, theirs, whole);
 }
 
+static void check_message(const char *what, const struct engine *e, uint32_t counter, uint8_t flags)
+{
+    uint8_t ours[64], theirs[64];
+    if (bench_write_key(iv, 15, 4, 1, secret, 16, counter, flags, key, 16, ours, 16, ours + 16, 32, ours + 48, 16) != 0) {
+        fprintf(stderr, "bench: a key message is refused\n");
+        exit(1);
+    }
+    peer_write(e, counter, flags, theirs);
+    must_agree_all(what, ours, theirs, 64);
+}
+
 static void check(void)
 {
     uint8_t block[16], cipher[16], other[16], zero[16];
@@ -206,6 +317,10 @@ static void check(void)
         aes_ecb_decrypt(block, cipher, &tom);
         must_agree("decrypt, libtomcrypt", cipher, other);
         check_modes(16 + (size_t)i % 128);
+        memcpy(secret, block, 16);
+        check_message("key message, aes_small", &small_engine, (uint32_t)rand() % 0x10000000, i % 32);
+        check_message("key message, aes_big", &big_engine, 0xfffffff - (uint32_t)i, i % 32);
+        check_message("key message, libtomcrypt", &tom_engine, (uint32_t)i, i % 32);
     }
 }
 
@@ -226,7 +341,7 @@ int main(void)
             for (int who = 0; who < WHO; who++) {
                 double start = now();
                 work[i].run[who]();
-                double took = (now() - start) / BLOCKS;
+                double took = (now() - start) / work[i].count;
                 if (round == 0 || took < best[i][who])
                     best[i][who] = took;
             }
@@ -239,5 +354,7 @@ int main(void)
     printf("ours, over 64 KiB, against the bare block: CBC encrypt %.3f, CBC decrypt %.3f, CMAC %.3f\n",
            best[CBC_ENCRYPT][OURS] / best[ENCRYPT][OURS], best[CBC_DECRYPT][OURS] / best[DECRYPT][OURS],
            best[CMAC][OURS] / best[ENCRYPT][OURS]);
+    printf("ours, a key message against its 10 blocks and 6 key schedules: %.3f\n",
+           best[MESSAGE][OURS] / (10 * best[ENCRYPT][OURS] + 6 * best[SCHEDULE][OURS]));
     return 0;
 }

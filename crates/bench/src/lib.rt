@@ -1,8 +1,10 @@
-// What `make bench` calls from C: the engine on whole arrays, with no length to test, and the modes on lent buffers.
+// What `make bench` calls from C: the engine on whole arrays, with no length to test, and the modes and the writer of
+// key messages on lent buffers.
 ghost use mathlib.Core.Path.{_≡_};
 ghost use Rattle.aes.specs.Schedule.{keyExpansion};
 ghost use Rattle.aes.specs.Cipher.{cipherWith, invCipherWith, cipher};
 ghost use Rattle.modes.specs.Routines.{cbcEncryption, cbcDecryption, authentication};
+ghost use Rattle.message.specs.Writer.{fullForm};
 
 #[no_mangle]
 pub extern "C" fn bench_schedule(key: &[u8; 16], w: &mut [u8; 176])
@@ -54,4 +56,36 @@ pub extern "C" fn bench_cmac(key: &[u8], bits: u64, message: &[u8], output: &mut
     ensures { λ _. ⌜ now (output .exit) ≡ authentication (now (key .entry)) bits (now (message .entry)) (now (output .entry)) .output ⌝ }
 {
     modes::cmac(key, bits, message, output)
+}
+
+#[no_mangle]
+pub extern "C" fn bench_write_key(
+    uid: &[u8],
+    target: u8,
+    authority: u8,
+    secret: &[u8],
+    counter: u32,
+    flags: u8,
+    key: &[u8],
+    m1: &mut [u8],
+    m2: &mut [u8],
+    m3: &mut [u8],
+) -> u8
+    ensures { λ r. ⌜ r ≡ fullForm (now (uid .entry)) target authority (now (secret .entry)) counter flags (now (key .entry)) (now (m1 .entry)) (now (m2 .entry)) (now (m3 .entry)) .answer ⌝ }
+    ensures { λ _. ⌜ now (m1 .exit) ≡ fullForm (now (uid .entry)) target authority (now (secret .entry)) counter flags (now (key .entry)) (now (m1 .entry)) (now (m2 .entry)) (now (m3 .entry)) .m1 ⌝ }
+    ensures { λ _. ⌜ now (m2 .exit) ≡ fullForm (now (uid .entry)) target authority (now (secret .entry)) counter flags (now (key .entry)) (now (m1 .entry)) (now (m2 .entry)) (now (m3 .entry)) .m2 ⌝ }
+    ensures { λ _. ⌜ now (m3 .exit) ≡ fullForm (now (uid .entry)) target authority (now (secret .entry)) counter flags (now (key .entry)) (now (m1 .entry)) (now (m2 .entry)) (now (m3 .entry)) .m3 ⌝ }
+{
+    message::write_key(
+        uid,
+        target,
+        authority,
+        secret,
+        counter,
+        flags,
+        key,
+        m1,
+        m2,
+        m3,
+    )
 }
