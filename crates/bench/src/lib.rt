@@ -4,7 +4,7 @@ ghost use mathlib.Core.Path.{_≡_};
 ghost use Rattle.aes.specs.Schedule.{keyExpansion};
 ghost use Rattle.aes.specs.Cipher.{cipherWith, invCipherWith, cipher};
 ghost use Rattle.modes.specs.Routines.{cbcEncryption, cbcDecryption, authentication};
-ghost use Rattle.message.specs.Writer.{fullForm};
+ghost use Rattle.message.specs.Writer.{messages, fullForm};
 
 #[no_mangle]
 pub extern "C" fn bench_schedule(key: &[u8; 16], w: &mut [u8; 176])
@@ -71,10 +71,7 @@ pub extern "C" fn bench_write_key(
     m2: &mut [u8],
     m3: &mut [u8],
 ) -> u8
-    ensures { λ r. ⌜ r ≡ fullForm (now (uid .entry)) target authority (now (secret .entry)) counter flags (now (key .entry)) (now (m1 .entry)) (now (m2 .entry)) (now (m3 .entry)) .answer ⌝ }
-    ensures { λ _. ⌜ now (m1 .exit) ≡ fullForm (now (uid .entry)) target authority (now (secret .entry)) counter flags (now (key .entry)) (now (m1 .entry)) (now (m2 .entry)) (now (m3 .entry)) .m1 ⌝ }
-    ensures { λ _. ⌜ now (m2 .exit) ≡ fullForm (now (uid .entry)) target authority (now (secret .entry)) counter flags (now (key .entry)) (now (m1 .entry)) (now (m2 .entry)) (now (m3 .entry)) .m2 ⌝ }
-    ensures { λ _. ⌜ now (m3 .exit) ≡ fullForm (now (uid .entry)) target authority (now (secret .entry)) counter flags (now (key .entry)) (now (m1 .entry)) (now (m2 .entry)) (now (m3 .entry)) .m3 ⌝ }
+    ensures { λ r. ⌜ messages r (now (m1 .exit)) (now (m2 .exit)) (now (m3 .exit)) ≡ fullForm (now (uid .entry)) target authority (now (secret .entry)) counter flags (now (key .entry)) (now (m1 .entry)) (now (m2 .entry)) (now (m3 .entry)) ⌝ }
 {
     message::write_key(
         uid,

@@ -23,9 +23,9 @@ use Rattle.modes.specs.declared.Constant.the-variants.{KeyUpdateEnc}
 use Rattle.modes.proofs.Cbc.{cbc-deciphers, cbc-enciphers, cbc-decrypted}
 use Rattle.modes.proofs.Compression.{kdf-block, constant-block}
 use Rattle.modes.proofs.Texts.{first, rest}
-use Rattle.message.specs.Building.{uidOf, targetOf, authorityOf, Built}
+use Rattle.message.specs.Building.{uidOf, targetOf, authorityOf, Carried}
 use Rattle.message.specs.FirstBlock.{firstBlock, counterOf, flagsOf, fillerOf}
-use Rattle.message.specs.Messages.{encKey, m1, m2, m3}
+use Rattle.message.specs.Messages.{encKey, m1, m2, m3, Sent, sent, build}
 use Rattle.message.specs.Opening.{openLengths, clearText, openedText, unopened, opened}
 use Rattle.message.specs.declared.Opened.{Opened}
 use Rattle.message.proofs.Opening.{opened-by-m3}
@@ -118,53 +118,64 @@ module _ (n : ℕ) (few : n ≤ 100) (secret one two three : List ℕ) (hs : Blo
       let passed = opened-only (openLengths (length secret) (length one) (length two) (length three) && same three (m3 secret one two)) (openedText n (clearText secret two)) e in
       equal-same three (m3 secret one two) (both (openLengths (length secret) (length one) (length two) (length three)) (same three (m3 secret one two)) passed .1)
 
-  -- ---- right M3 and zero filler: these messages are built from what is handed back
-  pub opens : opened n secret one two three .genuine ≡ true → opened n secret one two three .zeros ≡ true
-      → Built n secret one two three (opened n secret one two three .counter) (opened n secret one two three .flags) (opened n secret one two three .key)
+  -- these parts build these very messages, for whom M1 names
+  abbrev pub Builds : ℕ → ℕ → List ℕ → Type 0
+  Builds c f key = build n (uidOf one) (targetOf one) (authorityOf one) secret c f key ≡ sent one two three
+
+  -- ---- right M3 and zero filler: what is handed back builds these messages
+  of-text : three ≡ m3 secret one two → openedText n (clearText secret two) .zeros ≡ true
+      → Carried n (openedText n (clearText secret two) .counter) (openedText n (clearText secret two) .flags) (openedText n (clearText secret two) .key)
+      × Builds (openedText n (clearText secret two) .counter) (openedText n (clearText secret two) .flags) (openedText n (clearText secret two) .key)
   unfolding openedText
+  of-text e3 zeros =
+      let clear : List ℕ = clearText secret two in
+      let block = first-clear secret hs two h2 in
+      let last = rest 1 clear (clear-text secret hs two h2) in
+      let e1 = sym (m1-parts one h1) in
+      let e2 = m2-of-clear secret hs two h2 n few (eqb-true (fillerOf n (take 16 clear)) 0 zeros) in (
+        record {
+          counter-fits = omega (arith, counter-read n few (take 16 clear) block);
+          flags-fit = flags-read n few (take 16 clear) block;
+          key-fits = record { long = last .long; small = last .small };
+        },
+        ap₂ (λ (x y : List ℕ). sent x y (m3 secret x y)) e1 e2 ∙ ap (sent one two) (sym e3),
+      )
+
+  pub opens : opened n secret one two three .genuine ≡ true → opened n secret one two three .zeros ≡ true
+      → Carried n (opened n secret one two three .counter) (opened n secret one two three .flags) (opened n secret one two three .key)
+      × Builds (opened n secret one two three .counter) (opened n secret one two three .flags) (opened n secret one two three .key)
   opens genuine zeros =
       let e3 = genuine-m3 genuine in
       let text = opened-text e3 in
-      subst (λ (o : Opened). Built n secret one two three (o .counter) (o .flags) (o .key)) (sym text) (of-text e3 (sym (ap (λ (o : Opened). o .zeros) text) ∙ zeros))
-    where
-      of-text : three ≡ m3 secret one two → openedText n (clearText secret two) .zeros ≡ true
-          → Built n secret one two three (openedText n (clearText secret two) .counter) (openedText n (clearText secret two) .flags) (openedText n (clearText secret two) .key)
-      of-text e3 zeros =
-          let clear : List ℕ = clearText secret two in
-          let block = first-clear secret hs two h2 in
-          let last = rest 1 clear (clear-text secret hs two h2) in
-          let filler = eqb-true (fillerOf n (take 16 clear)) 0 zeros in
-          record {
-            counter-fits = omega (arith, counter-read n few (take 16 clear) block);
-            flags-fit = flags-read n few (take 16 clear) block;
-            key-fits = record { long = last .long; small = last .small };
-            one = m1-parts one h1;
-            two = sym (m2-of-clear secret hs two h2 n few filler);
-            three = e3;
-          }
+      subst (λ (o : Opened). Carried n (o .counter) (o .flags) (o .key) × Builds (o .counter) (o .flags) (o .key)) (sym text)
+      (of-text e3 (sym (ap (λ (o : Opened). o .zeros) text) ∙ zeros))
 
-  -- ---- messages that are built from some parts: M3 is right, the filler is zero, and these parts are handed back
-  pub handed-back : (c f : ℕ) (key : List ℕ) → Built n secret one two three c f key
+  -- ---- messages that some parts build: M3 is right, the filler is zero, and these parts are handed back
+  pub handed-back : (c f : ℕ) (key : List ℕ) → Carried n c f key → Builds c f key
       → opened n secret one two three ≡ record { genuine = true; counter = c; flags = f; zeros = true; key = key }
-  handed-back c f key b =
-      let clear = ap (clearText secret) (b .two) ∙ clear-of-m2 secret hs n c f key (b .key-fits) in
-      opened-text (b .three) ∙ ap (openedText n) clear ∙ read n few c f key (omega (arith, b .counter-fits)) (b .flags-fit)
+  handed-back c f key carried b =
+      let e1 = ap (λ (s : Sent). s .m1) b in
+      let e2 = ap (λ (s : Sent). s .m2) b in
+      let e3 = sym (ap (λ (s : Sent). s .m3) b) ∙ ap₂ (m3 secret) e1 e2 in
+      let clear = ap (clearText secret) (sym e2) ∙ clear-of-m2 secret hs n c f key (carried .key-fits) in
+      opened-text e3 ∙ ap (openedText n) clear ∙ read n few c f key (omega (arith, carried .counter-fits)) (carried .flags-fit)
 
   pub opens-exactly : ((opened n secret one two three .genuine ≡ true) × (opened n secret one two three .zeros ≡ true))
-      ↔ ((c : ℕ) × (f : ℕ) × (key : List ℕ) × Built n secret one two three c f key)
+      ↔ ((c : ℕ) × (f : ℕ) × (key : List ℕ) × Carried n c f key × Builds c f key)
   opens-exactly = (
-    λ h. (opened n secret one two three .counter, opened n secret one two three .flags, opened n secret one two three .key, opens (h .0) (h .1)),
-    λ some. let back = handed-back (some .0) (some .1) (some .2) (some .3) in (ap (λ (o : Opened). o .genuine) back, ap (λ (o : Opened). o .zeros) back),
+    λ h. let o = opens (h .0) (h .1) in
+        (opened n secret one two three .counter, opened n secret one two three .flags, opened n secret one two three .key, o .0, o .1),
+    λ some. let back = handed-back (some .0) (some .1) (some .2) (some .3) (some .4) in (ap (λ (o : Opened). o .genuine) back, ap (λ (o : Opened). o .zeros) back),
   )
 
-  pub parts-unique : (c f c′ f′ : ℕ) (key key′ : List ℕ) → Built n secret one two three c f key → Built n secret one two three c′ f′ key′
+  pub parts-unique : (c f c′ f′ : ℕ) (key key′ : List ℕ) → Carried n c f key → Carried n c′ f′ key′ → Builds c f key → Builds c′ f′ key′
       → (c ≡ c′) × (f ≡ f′) × (key ≡ key′)
-  parts-unique c f c′ f′ key key′ b b′ =
-      let same = sym (handed-back c f key b) ∙ handed-back c′ f′ key′ b′ in
+  parts-unique c f c′ f′ key key′ h h′ b b′ =
+      let same = sym (handed-back c f key h b) ∙ handed-back c′ f′ key′ h′ b′ in
       (ap (λ (o : Opened). o .counter) same, ap (λ (o : Opened). o .flags) same, ap (λ (o : Opened). o .key) same)
 
 -- ---- building is one-to-one: M1 determines whom it names, and under one secret M2 determines what it carries
-pub m1-determines : (uid uid′ : List ℕ) (t a t′ a′ : ℕ) → length uid ≡ 15 → length uid′ ≡ 15 → a < 16 → a′ < 16 → m1 uid t a ≡ m1 uid′ t′ a′
+m1-determines : (uid uid′ : List ℕ) (t a t′ a′ : ℕ) → length uid ≡ 15 → length uid′ ≡ 15 → a < 16 → a′ < 16 → m1 uid t a ≡ m1 uid′ t′ a′
     → (uid ≡ uid′) × (t ≡ t′) × (a ≡ a′)
 m1-determines uid uid′ t a t′ a′ long long′ small small′ e = (
   sym (uid-of-m1 uid t a long small) ∙ ap uidOf e ∙ uid-of-m1 uid′ t′ a′ long′ small′,
@@ -172,10 +183,19 @@ m1-determines uid uid′ t a t′ a′ long long′ small small′ e = (
   sym (authority-of-m1 uid t a long small) ∙ ap authorityOf e ∙ authority-of-m1 uid′ t′ a′ long′ small′,
 )
 
-pub m2-determines : (n : ℕ) → n ≤ 100 → (secret key key′ : List ℕ) (c f c′ f′ : ℕ) → Block secret → Block key → Block key′
-    → c < 2 ^ 28 → f < 2 ^ n → c′ < 2 ^ 28 → f′ < 2 ^ n → m2 n secret c f key ≡ m2 n secret c′ f′ key′
-    → (c ≡ c′) × (f ≡ f′) × (key ≡ key′)
-m2-determines n few secret key key′ c f c′ f′ hs hk hk′ hc hf hc′ hf′ e =
-    let clear = sym (clear-of-m2 secret hs n c f key hk) ∙ ap (clearText secret) e ∙ clear-of-m2 secret hs n c′ f′ key′ hk′ in
-    let same = sym (read n few c f key hc hf) ∙ ap (openedText n) clear ∙ read n few c′ f′ key′ hc′ hf′ in
+m2-determines : (n : ℕ) → n ≤ 100 → (secret key key′ : List ℕ) (c f c′ f′ : ℕ) → Block secret → Carried n c f key → Carried n c′ f′ key′
+    → m2 n secret c f key ≡ m2 n secret c′ f′ key′ → (c ≡ c′) × (f ≡ f′) × (key ≡ key′)
+m2-determines n few secret key key′ c f c′ f′ hs h h′ e =
+    let clear = sym (clear-of-m2 secret hs n c f key (h .key-fits)) ∙ ap (clearText secret) e ∙ clear-of-m2 secret hs n c′ f′ key′ (h′ .key-fits) in
+    let front = read n few c f key (omega (arith, h .counter-fits)) (h .flags-fit) in
+    let back = read n few c′ f′ key′ (omega (arith, h′ .counter-fits)) (h′ .flags-fit) in
+    let same = sym front ∙ ap (openedText n) clear ∙ back in
     (ap (λ (o : Opened). o .counter) same, ap (λ (o : Opened). o .flags) same, ap (λ (o : Opened). o .key) same)
+
+pub one-to-one : (n : ℕ) → n ≤ 100 → (secret uid uid′ key key′ : List ℕ) (t a c f t′ a′ c′ f′ : ℕ) → Block secret → length uid ≡ 15 → length uid′ ≡ 15
+    → a < 16 → a′ < 16 → Carried n c f key → Carried n c′ f′ key′ → build n uid t a secret c f key ≡ build n uid′ t′ a′ secret c′ f′ key′
+    → (uid ≡ uid′) × (t ≡ t′) × (a ≡ a′) × (c ≡ c′) × (f ≡ f′) × (key ≡ key′)
+one-to-one n few secret uid uid′ key key′ t a c f t′ a′ c′ f′ hs long long′ small small′ h h′ e =
+    let named = m1-determines uid uid′ t a t′ a′ long long′ small small′ (ap (λ (s : Sent). s .m1) e) in
+    let carried = m2-determines n few secret key key′ c f c′ f′ hs h h′ (ap (λ (s : Sent). s .m2) e) in
+    (named .0, named .1, named .2, carried .0, carried .1, carried .2)

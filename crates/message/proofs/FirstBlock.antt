@@ -13,7 +13,7 @@ use Rattle.aes.specs.State.{Block}
 use Rattle.modes.specs.Number.{number, inBytes}
 use Rattle.modes.proofs.Number.{number-below}
 use Rattle.modes.proofs.InBytes.{length-in-bytes, in-bytes-small, number-in-bytes, in-bytes-number}
-use Rattle.message.specs.FirstBlock.{firstBlock, counterOf, flagsOf, fillerOf}
+use Rattle.message.specs.FirstBlock.{firstBlock, counterOf, flagsOf, fillerOf, proofBlock}
 
 pub first-block : (n c f : ℕ) → Block (firstBlock n c f)
 unfolding firstBlock
@@ -89,6 +89,18 @@ module _ (n : ℕ) (few : n ≤ 100) where
     packs-back-exactly = (
       packs-back,
       λ e. sym (ap (fillerOf n) e) ∙ filler-packed (counterOf b) (flagsOf n b) counter-read flags-read,
+    )
+
+-- ---- M4's clear block: its counter is read back, and a block is one exactly where the bit after the counter is 1 and the rest zero
+pub proof-counter : (c : ℕ) → c < 2 ^ 28 → counterOf (proofBlock c) ≡ c
+proof-counter c h = counter-packed 1 (omega arith) c 1 h (omega arith)
+
+pub proof-exactly : (b : List ℕ) → Block b → ((flagsOf 1 b ≡ 1) × (fillerOf 1 b ≡ 0)) ↔ (proofBlock (counterOf b) ≡ b)
+proof-exactly b h =
+    let few : 1 ≤ 100 = omega arith in
+    let fits = counter-read 1 few b h in (
+      λ e. ap (firstBlock 1 (counterOf b)) (sym (e .0)) ∙ packs-back 1 few b h (e .1),
+      λ e. (sym (ap (flagsOf 1) e) ∙ flags-packed 1 few (counterOf b) 1 fits (omega arith), sym (ap (fillerOf 1) e) ∙ filler-packed 1 few (counterOf b) 1 fits (omega arith)),
     )
 
 -- a 1 bit after the counter is the first of five flags alone

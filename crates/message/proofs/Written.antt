@@ -14,7 +14,7 @@ use Rattle.message.specs.Flags.{flagCount}
 use Rattle.message.specs.FirstBlock.{maxCounter}
 use Rattle.message.specs.Messages.{m1, m2, m3, m4, m5}
 use Rattle.message.specs.Slots.{allowed}
-use Rattle.message.specs.Writer.{messageLengths, messageAnswer, fullForm, proofLengths, answerForm}
+use Rattle.message.specs.Writer.{messageLengths, messageAnswer, messages, fullForm, proofLengths, proof, answerForm}
 
 -- ---- an answer of 0
 -- a check that answers no 0 has found no fault, and neither has any after it
@@ -62,39 +62,41 @@ pub is-written : (answer : ℕ) (result before : List ℕ) → answer ≡ 0 → 
 unfolding written
 is-written answer result before h = sym (ap (λ (b : Bool). cond b result before) (eq-eqb answer 0 h))
 
+-- ---- what is left, part by part
+left : {n n′ : ℕ} {a a′ b b′ c c′ : List ℕ} → n ≡ n′ → a ≡ a′ → b ≡ b′ → c ≡ c′ → messages n a b c ≡ messages n′ a′ b′ c′
+left {n′ = n′} {a′ = a′} {b = b} {c = c} p q r s = ap₂ (λ (x : ℕ) (y : List ℕ). messages x y b c) p q ∙ ap₂ (λ (y z : List ℕ). messages n′ a′ y z) r s
+
+left-proof : {n n′ : ℕ} {a a′ b b′ : List ℕ} → n ≡ n′ → a ≡ a′ → b ≡ b′ → proof n a b ≡ proof n′ a′ b′
+left-proof {n′ = n′} {a′ = a′} {b = b} p q r = ap₂ (λ (x : ℕ) (y : List ℕ). proof x y b) p q ∙ ap (λ (z : List ℕ). proof n′ a′ z) r
+
 -- ---- the full form
 module _ (uid secret key b1 b2 b3 : List ℕ) (t a c f answer : ℕ)
     (e : answer ≡ messageAnswer (messageLengths (length uid) (length secret) (length key) (length b1) (length b2) (length b3)) c f t a) where
-  pub messages-refused : (answer ≡ 0 → ⊥)
-      → (answer ≡ fullForm uid t a secret c f key b1 b2 b3 .answer) × ((b1 ≡ fullForm uid t a secret c f key b1 b2 b3 .m1)
-      × ((b2 ≡ fullForm uid t a secret c f key b1 b2 b3 .m2) × (b3 ≡ fullForm uid t a secret c f key b1 b2 b3 .m3)))
+  pub messages-refused : (answer ≡ 0 → ⊥) → messages answer b1 b2 b3 ≡ fullForm uid t a secret c f key b1 b2 b3
   unfolding fullForm
   messages-refused h =
       let other : messageAnswer (messageLengths (length uid) (length secret) (length key) (length b1) (length b2) (length b3)) c f t a ≡ 0 → ⊥
       = λ z. h (e ∙ z) in
-      (e, (unwritten _ _ _ other, (unwritten _ _ _ other, unwritten _ _ _ other)))
+      left e (unwritten _ _ _ other) (unwritten _ _ _ other) (unwritten _ _ _ other)
 
   pub messages-written : (a1 a2 a3 : List ℕ) → answer ≡ 0 → a1 ≡ m1 uid t a → a2 ≡ m2 flagCount secret c f key → a3 ≡ m3 secret a1 a2
-      → (0 ≡ fullForm uid t a secret c f key b1 b2 b3 .answer) × ((a1 ≡ fullForm uid t a secret c f key b1 b2 b3 .m1)
-      × ((a2 ≡ fullForm uid t a secret c f key b1 b2 b3 .m2) × (a3 ≡ fullForm uid t a secret c f key b1 b2 b3 .m3)))
+      → messages 0 a1 a2 a3 ≡ fullForm uid t a secret c f key b1 b2 b3
   unfolding fullForm
   messages-written a1 a2 a3 h e1 e2 e3 =
       let done = sym e ∙ h in
-      (sym done, (e1 ∙ is-written _ _ _ done, (e2 ∙ is-written _ _ _ done, e3 ∙ ap₂ (m3 secret) e1 e2 ∙ is-written _ _ _ done)))
+      left (sym done) (e1 ∙ is-written _ _ _ done) (e2 ∙ is-written _ _ _ done) (e3 ∙ ap₂ (m3 secret) e1 e2 ∙ is-written _ _ _ done)
 
 -- ---- the device's proof
 module _ (uid key b4 b5 : List ℕ) (t a c answer : ℕ)
     (e : answer ≡ messageAnswer (proofLengths (length uid) (length key) (length b4) (length b5)) c 0 t a) where
-  pub proof-refused : (answer ≡ 0 → ⊥)
-      → (answer ≡ answerForm uid t a c key b4 b5 .answer) × ((b4 ≡ answerForm uid t a c key b4 b5 .m4) × (b5 ≡ answerForm uid t a c key b4 b5 .m5))
+  pub proof-refused : (answer ≡ 0 → ⊥) → proof answer b4 b5 ≡ answerForm uid t a c key b4 b5
   unfolding answerForm
   proof-refused h =
       let other : messageAnswer (proofLengths (length uid) (length key) (length b4) (length b5)) c 0 t a ≡ 0 → ⊥ = λ z. h (e ∙ z) in
-      (e, (unwritten _ _ _ other, unwritten _ _ _ other))
+      left-proof e (unwritten _ _ _ other) (unwritten _ _ _ other)
 
-  pub proof-written : (a4 a5 : List ℕ) → answer ≡ 0 → a4 ≡ m4 uid t a c key → a5 ≡ m5 key a4
-      → (0 ≡ answerForm uid t a c key b4 b5 .answer) × ((a4 ≡ answerForm uid t a c key b4 b5 .m4) × (a5 ≡ answerForm uid t a c key b4 b5 .m5))
+  pub proof-written : (a4 a5 : List ℕ) → answer ≡ 0 → a4 ≡ m4 uid t a c key → a5 ≡ m5 key a4 → proof 0 a4 a5 ≡ answerForm uid t a c key b4 b5
   unfolding answerForm
   proof-written a4 a5 h e4 e5 =
       let done = sym e ∙ h in
-      (sym done, (e4 ∙ is-written _ _ _ done, e5 ∙ ap (m5 key) e4 ∙ is-written _ _ _ done))
+      left-proof (sym done) (e4 ∙ is-written _ _ _ done) (e5 ∙ ap (m5 key) e4 ∙ is-written _ _ _ done)

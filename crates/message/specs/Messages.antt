@@ -1,7 +1,7 @@
 -- The messages of 001, 4.9: M1 to M3 for the device, over the number n of flags, and its proof M4 and M5.
 -- Assumes nothing.
 use mathlib.Core.List.{List, [], _∷_, _++_}
-use Prim.Native.Nat.{ℕ, _+_, _*_}
+use Prim.Native.Nat.{ℕ, _+_, _*_, _/_, _%_}
 use Rattle.aes.specs.Cipher.{cipher}
 use Rattle.modes.specs.Blocks.{zeroBlock}
 use Rattle.modes.specs.Cbc.{cbcEncrypt}
@@ -23,6 +23,13 @@ macKey key = kdf key (constantOf KeyUpdateMac)
 abbrev pub slotByte : ℕ → ℕ → ℕ
 slotByte target authority = 16 * target + authority
 
+-- and each of them again
+abbrev pub targetIn : ℕ → ℕ
+targetIn slots = slots / 16
+
+abbrev pub authorityIn : ℕ → ℕ
+authorityIn slots = slots % 16
+
 -- UID' | ID | AuthID
 unfoldable pub m1 : List ℕ → ℕ → ℕ → List ℕ
 m1 uid target authority = uid ++ (slotByte target authority ∷ [])
@@ -35,6 +42,22 @@ m2 n secret counter flags key = cbcEncrypt (cipher (encKey secret)) zeroBlock (f
 unfoldable pub m3 : List ℕ → List ℕ → List ℕ → List ℕ
 m3 secret m1 m2 = cmac (cipher (macKey secret)) 384 (m1 ++ m2)
 
+-- the three together, from UID', target, authority, the authority's key, counter, flags and the new key
+pub record Sent : Type 0 where
+  pub m1 : List ℕ
+  pub m2 : List ℕ
+  pub m3 : List ℕ
+
+abbrev pub sent : List ℕ → List ℕ → List ℕ → Sent
+sent m1 m2 m3 = record { m1 = m1; m2 = m2; m3 = m3 }
+
+abbrev pub build : ℕ → List ℕ → ℕ → ℕ → List ℕ → ℕ → ℕ → List ℕ → Sent
+build n uid target authority secret counter flags key =
+    let first = m1 uid target authority in
+    let second = m2 n secret counter flags key in
+    sent first second (m3 secret first second)
+
+-- ---- the device's proof
 -- UID | ID | AuthID | ENC_ECB under K3 of C_ID | 1 | 0..0
 unfoldable pub m4 : List ℕ → ℕ → ℕ → ℕ → List ℕ → List ℕ
 m4 uid target authority counter key = m1 uid target authority ++ cipher (encKey key) (proofBlock counter)

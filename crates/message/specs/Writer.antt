@@ -9,7 +9,7 @@ use Rattle.modes.specs.Answer.{generalError}
 use Rattle.message.specs.Answer.{keyInvalid, firstFault, written}
 use Rattle.message.specs.Flags.{flagCount}
 use Rattle.message.specs.FirstBlock.{maxCounter}
-use Rattle.message.specs.Messages.{m1, m2, m3, m4, m5}
+use Rattle.message.specs.Messages.{build, m4, m5}
 use Rattle.message.specs.Slots.{allowed}
 
 -- UID' 15 bytes, the two keys 16 each; M1, M2 and M3 have room for 16, 32 and 16
@@ -34,13 +34,16 @@ pub record Messages : Type 0 where
   pub m2 : List ℕ
   pub m3 : List ℕ
 
+abbrev pub messages : ℕ → List ℕ → List ℕ → List ℕ → Messages
+messages answer m1 m2 m3 = record { answer = answer; m1 = m1; m2 = m2; m3 = m3 }
+
 -- the full form
 unfoldable pub fullForm : List ℕ → ℕ → ℕ → List ℕ → ℕ → ℕ → List ℕ → List ℕ → List ℕ → List ℕ → Messages
 fullForm uid target authority secret counter flags key before1 before2 before3 =
-    let answer = messageAnswer (messageLengths (length uid) (length secret) (length key) (length before1) (length before2) (length before3)) counter flags target authority in
-    let first = m1 uid target authority in
-    let second = m2 flagCount secret counter flags key in
-    record { answer = answer; m1 = written answer first before1; m2 = written answer second before2; m3 = written answer (m3 secret first second) before3 }
+    let lengths = messageLengths (length uid) (length secret) (length key) (length before1) (length before2) (length before3) in
+    let answer = messageAnswer lengths counter flags target authority in
+    let built = build flagCount uid target authority secret counter flags key in
+    messages answer (written answer (built .m1) before1) (written answer (built .m2) before2) (written answer (built .m3) before3)
 
 -- the short form: no flags are asked for, and 00000 is written
 abbrev pub shortFlags : ℕ
@@ -63,9 +66,13 @@ pub record Proof : Type 0 where
   pub m4 : List ℕ
   pub m5 : List ℕ
 
+abbrev pub proof : ℕ → List ℕ → List ℕ → Proof
+proof answer m4 m5 = record { answer = answer; m4 = m4; m5 = m5 }
+
 -- the same order of checks; there are no flags in it
 unfoldable pub answerForm : List ℕ → ℕ → ℕ → ℕ → List ℕ → List ℕ → List ℕ → Proof
 answerForm uid target authority counter key before4 before5 =
-    let answer = messageAnswer (proofLengths (length uid) (length key) (length before4) (length before5)) counter 0 target authority in
+    let lengths = proofLengths (length uid) (length key) (length before4) (length before5) in
+    let answer = messageAnswer lengths counter 0 target authority in
     let fourth = m4 uid target authority counter key in
-    record { answer = answer; m4 = written answer fourth before4; m5 = written answer (m5 key fourth) before5 }
+    proof answer (written answer fourth before4) (written answer (m5 key fourth) before5)

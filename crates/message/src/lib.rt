@@ -2,11 +2,10 @@
 // device's.
 //
 // A slot number is a byte from 0 to 255, and nothing here cuts bits from it: 15 to 255 are no slot. Whoever asks for one is
-// refused, and a refusal writes nothing.
-
+// refused, and a refusal writes nothing. `secret` is the authority's key throughout, and `key` the new one.
 ghost use mathlib.Core.Path.{_≡_};
 ghost use mathlib.Core.List.{_++_, _∷_, []};
-ghost use Prim.Native.Nat.{_+_, _/_, _%_, _≤_, _<_};
+ghost use Prim.Native.Nat.{_+_, _≤_, _<_};
 ghost use lib.Dec.{eqb};
 ghost use lib.ListN.{length, take, drop};
 ghost use lib.Seq.{paste};
@@ -16,10 +15,10 @@ ghost use Rattle.modes.specs.Compression.{kdf};
 ghost use Rattle.modes.specs.Constants.{constantOf};
 ghost use Rattle.message.specs.Flags.{flagCount};
 ghost use Rattle.message.specs.FirstBlock.{firstBlock, counterOf, flagsOf, fillerOf, maxCounter, proofBlock};
-ghost use Rattle.message.specs.Messages.{encKey, slotByte, m2, m3, m5};
+ghost use Rattle.message.specs.Messages.{encKey, slotByte, targetIn, authorityIn, m2, m3, m5};
 ghost use Rattle.message.specs.Opening.{openLengths, opened, openedText, unopened};
 ghost use Rattle.message.specs.Slots.{kindOf, onlyVerifies, hasRole, flagsKept, allowed};
-ghost use Rattle.message.specs.Writer.{messageLengths, messageAnswer, fullForm, shortForm, fleetSheet, proofLengths, answerForm};
+ghost use Rattle.message.specs.Writer.{messageLengths, messageAnswer, messages, fullForm, shortForm, fleetSheet, proofLengths, proof, answerForm};
 use modes::Constant;
 
 // The answers' numbers.
@@ -149,13 +148,13 @@ pub fn is_same(a: &[u8], b: &[u8]) -> bool
     if a.len() != b.len() {
         return false;
     }
-    let mut found = true;
+    let mut agree = true;
     let mut i: usize = 0;
     while i < a.len() {
-        found = found & (a[i] == b[i]);
+        agree = agree & (a[i] == b[i]);
         i += 1;
     }
-    found
+    agree
 }
 
 // ---- the first block of M2
@@ -209,13 +208,13 @@ fn slot_byte(target: u8, authority: u8) -> u8
 }
 
 pub fn target_of(slots: u8) -> u8
-    ensures { λ r. ⌜ r ≡ slots / 16 ⌝ }
+    ensures { λ r. ⌜ r ≡ targetIn slots ⌝ }
 {
     slots >> 4
 }
 
 pub fn authority_of(slots: u8) -> u8
-    ensures { λ r. ⌜ r ≡ slots % 16 ⌝ }
+    ensures { λ r. ⌜ r ≡ authorityIn slots ⌝ }
 {
     slots & 15
 }
@@ -327,10 +326,7 @@ pub fn write_key(
     m2: &mut [u8],
     m3: &mut [u8],
 ) -> u8
-    ensures { λ r. ⌜ r ≡ fullForm (now (uid .entry)) target authority (now (secret .entry)) counter flags (now (key .entry)) (now (m1 .entry)) (now (m2 .entry)) (now (m3 .entry)) .answer ⌝ }
-    ensures { λ _. ⌜ now (m1 .exit) ≡ fullForm (now (uid .entry)) target authority (now (secret .entry)) counter flags (now (key .entry)) (now (m1 .entry)) (now (m2 .entry)) (now (m3 .entry)) .m1 ⌝ }
-    ensures { λ _. ⌜ now (m2 .exit) ≡ fullForm (now (uid .entry)) target authority (now (secret .entry)) counter flags (now (key .entry)) (now (m1 .entry)) (now (m2 .entry)) (now (m3 .entry)) .m2 ⌝ }
-    ensures { λ _. ⌜ now (m3 .exit) ≡ fullForm (now (uid .entry)) target authority (now (secret .entry)) counter flags (now (key .entry)) (now (m1 .entry)) (now (m2 .entry)) (now (m3 .entry)) .m3 ⌝ }
+    ensures { λ r. ⌜ messages r (now (m1 .exit)) (now (m2 .exit)) (now (m3 .exit)) ≡ fullForm (now (uid .entry)) target authority (now (secret .entry)) counter flags (now (key .entry)) (now (m1 .entry)) (now (m2 .entry)) (now (m3 .entry)) ⌝ }
 {
     let lengths = message_lengths(
         uid.len(),
@@ -362,10 +358,7 @@ pub fn write_key_short(
     m2: &mut [u8],
     m3: &mut [u8],
 ) -> u8
-    ensures { λ r. ⌜ r ≡ shortForm (now (uid .entry)) target authority (now (secret .entry)) counter (now (key .entry)) (now (m1 .entry)) (now (m2 .entry)) (now (m3 .entry)) .answer ⌝ }
-    ensures { λ _. ⌜ now (m1 .exit) ≡ shortForm (now (uid .entry)) target authority (now (secret .entry)) counter (now (key .entry)) (now (m1 .entry)) (now (m2 .entry)) (now (m3 .entry)) .m1 ⌝ }
-    ensures { λ _. ⌜ now (m2 .exit) ≡ shortForm (now (uid .entry)) target authority (now (secret .entry)) counter (now (key .entry)) (now (m1 .entry)) (now (m2 .entry)) (now (m3 .entry)) .m2 ⌝ }
-    ensures { λ _. ⌜ now (m3 .exit) ≡ shortForm (now (uid .entry)) target authority (now (secret .entry)) counter (now (key .entry)) (now (m1 .entry)) (now (m2 .entry)) (now (m3 .entry)) .m3 ⌝ }
+    ensures { λ r. ⌜ messages r (now (m1 .exit)) (now (m2 .exit)) (now (m3 .exit)) ≡ shortForm (now (uid .entry)) target authority (now (secret .entry)) counter (now (key .entry)) (now (m1 .entry)) (now (m2 .entry)) (now (m3 .entry)) ⌝ }
 {
     write_key(
         uid,
@@ -392,10 +385,7 @@ pub fn fleet_sheet(
     m2: &mut [u8],
     m3: &mut [u8],
 ) -> u8
-    ensures { λ r. ⌜ r ≡ fleetSheet target authority (now (secret .entry)) counter (now (key .entry)) (now (m1 .entry)) (now (m2 .entry)) (now (m3 .entry)) .answer ⌝ }
-    ensures { λ _. ⌜ now (m1 .exit) ≡ fleetSheet target authority (now (secret .entry)) counter (now (key .entry)) (now (m1 .entry)) (now (m2 .entry)) (now (m3 .entry)) .m1 ⌝ }
-    ensures { λ _. ⌜ now (m2 .exit) ≡ fleetSheet target authority (now (secret .entry)) counter (now (key .entry)) (now (m1 .entry)) (now (m2 .entry)) (now (m3 .entry)) .m2 ⌝ }
-    ensures { λ _. ⌜ now (m3 .exit) ≡ fleetSheet target authority (now (secret .entry)) counter (now (key .entry)) (now (m1 .entry)) (now (m2 .entry)) (now (m3 .entry)) .m3 ⌝ }
+    ensures { λ r. ⌜ messages r (now (m1 .exit)) (now (m2 .exit)) (now (m3 .exit)) ≡ fleetSheet target authority (now (secret .entry)) counter (now (key .entry)) (now (m1 .entry)) (now (m2 .entry)) (now (m3 .entry)) ⌝ }
 {
     write_key_short(
         &[0u8; 15],
@@ -426,9 +416,7 @@ pub fn write_answer(
     m4: &mut [u8],
     m5: &mut [u8],
 ) -> u8
-    ensures { λ r. ⌜ r ≡ answerForm (now (uid .entry)) target authority counter (now (key .entry)) (now (m4 .entry)) (now (m5 .entry)) .answer ⌝ }
-    ensures { λ _. ⌜ now (m4 .exit) ≡ answerForm (now (uid .entry)) target authority counter (now (key .entry)) (now (m4 .entry)) (now (m5 .entry)) .m4 ⌝ }
-    ensures { λ _. ⌜ now (m5 .exit) ≡ answerForm (now (uid .entry)) target authority counter (now (key .entry)) (now (m4 .entry)) (now (m5 .entry)) .m5 ⌝ }
+    ensures { λ r. ⌜ proof r (now (m4 .exit)) (now (m5 .exit)) ≡ answerForm (now (uid .entry)) target authority counter (now (key .entry)) (now (m4 .entry)) (now (m5 .entry)) ⌝ }
 {
     let lengths = proof_lengths(uid.len(), key.len(), m4.len(), m5.len());
     let answer = message_answer(lengths, counter, 0, target, authority);
@@ -442,8 +430,8 @@ pub fn write_answer(
 
 // ---- opening
 
-// What M1 to M3 hold. Where `genuine` is false, M3 is not the MAC of M1 and M2, or a length is wrong, and the rest is zero and
-// false.
+// What M1 to M3 hold: whether M3 is the MAC of M1 and M2, the counter, the flags, whether the filler after them is all zeros, and
+// the new key. Where `genuine` is false, M3 or a length is wrong, and the rest is zero and false.
 pub struct Opened {
     pub genuine: bool,
     pub counter: u32,

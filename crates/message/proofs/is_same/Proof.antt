@@ -8,10 +8,10 @@ use Rattle.message.proofs.is_same.Statement.{statement}
 use Rattle.message.proofs.is_same.Tie as tie
 
 abbrev Inv-loop : tie.InvT-loop
-Inv-loop a b found₀ i₀ found i = (i ≤ length a) × Compared a b i found
+Inv-loop a b agree₀ i₀ agree i = (i ≤ length a) × Compared a b i agree
 
 abbrev μ-loop : tie.MeasureT-loop
-μ-loop a b found₀ i₀ found i = length a - i
+μ-loop a b agree₀ i₀ agree i = length a - i
 
 returns : tie.Need-returns Inv-loop μ-loop
 returns c = same-length _ _ (c .if1 .taken)
@@ -19,11 +19,11 @@ returns c = same-length _ _ (c .if1 .taken)
 loop-holds : tie.Need-loop-holds Inv-loop μ-loop
 loop-holds c = let a = c .before .args in (search needs, compared-none (a .a .now) (a .b .now))
 
-shared-slice-read-found : tie.Need-shared-slice-read-found Inv-loop μ-loop
-shared-slice-read-found c = search needs
+shared-slice-read-agree : tie.Need-shared-slice-read-agree Inv-loop μ-loop
+shared-slice-read-agree c = search needs
 
-shared-slice-read-found-2 : tie.Need-shared-slice-read-found-2 Inv-loop μ-loop
-shared-slice-read-found-2 c = search needs
+shared-slice-read-agree-2 : tie.Need-shared-slice-read-agree-2 Inv-loop μ-loop
+shared-slice-read-agree-2 c = search needs
 
 add-i : tie.Need-add-i Inv-loop μ-loop
 add-i c = search needs
@@ -34,12 +34,12 @@ loop-less c = search needs
 loop-again : tie.Need-loop-again Inv-loop μ-loop
 loop-again c = let l = c .before .before .before .loop in
     let a = c .before .before .before .before .before .args in
-    (search needs, compared-more (a .a .now) (a .b .now) (l .i) (l .found) (search needs) (search needs) (l .inv .1))
+    (search needs, compared-more (a .a .now) (a .b .now) (l .i) (l .agree) (search needs) (search needs) (l .inv .1))
 
 returns-2 : tie.Need-returns-2 Inv-loop μ-loop
 returns-2 c = let l = c .before .loop in
     let a = c .before .before .before .args in
-    compared-all (a .a .now) (a .b .now) (l .i) (l .found) (search needs) (c .before .before .if1 .left) (l .inv .1)
+    compared-all (a .a .now) (a .b .now) (l .i) (l .agree) (search needs) (c .before .before .if1 .left) (l .inv .1)
 
 pub is-same-spec : {M : Type 1} → statement M
 is-same-spec =
@@ -49,8 +49,8 @@ is-same-spec =
     μ-loop
     returns
     loop-holds
-    shared-slice-read-found
-    shared-slice-read-found-2
+    shared-slice-read-agree
+    shared-slice-read-agree-2
     add-i
     loop-less
     loop-again
