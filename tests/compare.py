@@ -12,7 +12,7 @@ import sys
 import second
 
 ROOM = 65536  # a run of the program reads 64 KiB, and operands of at most 8 KiB
-RUNS = {"random": 20, "extreme": 4, "damaged": 14, "message": 10}
+RUNS = {"random": 20, "extreme": 4, "damaged": 14, "message": 16}
 
 
 def rows(data):

@@ -218,11 +218,15 @@ WITHOUT = {1: {"KEY_USAGE"}, 2: {"BOOT", "KEY_USAGE"}, 3: {"BOOT", "KEY_USAGE"},
 AUTHORITIES = {1: {1}, 2: {1, 2}, 3: {1, 2}, **{n: {1, n} for n in KEYS}, 14: {0, *KEYS}}
 
 
+def stored(target, counter):
+    return counter if target in WITHOUT else 0
+
+
 def slot(target, authority):
-    """Kind, roles and flags of a slot, and whether it may be loaded by the other."""
+    """Kind, roles, flags and counter of a slot, and whether it may be loaded by the other."""
     kept = sum(FLAGS[name] for name in set(FLAGS) - WITHOUT.get(target, set(FLAGS)))
     roles = [target in CIPHERS, target in CIPHERS, target in VERIFIERS]
-    return bytes([KINDS.get(target, 6), *roles, kept, authority in AUTHORITIES.get(target, ())])
+    return bytes([KINDS.get(target, 6), *roles, kept, stored(target, 1), authority in AUTHORITIES.get(target, ())])
 
 
 def packed(*fields):
@@ -256,7 +260,7 @@ def write_answer(uid, target, authority, counter, key, *buffers):
     answer = refusal(lengths, [15, 16, 32, 16], counter, 0, target, authority)
     if answer:
         return answer, buffers
-    m4 = uid + bytes([16 * target + authority]) + encrypt(derive(key, 1), packed((counter, 28), (1, 1)))
+    m4 = uid + bytes([16 * target + authority]) + encrypt(derive(key, 1), packed((stored(target, counter), 28), (1, 1)))
     return 0, (m4, cmac(derive(key, 2), 256, m4, bytes(16))[1])
 
 

@@ -1,7 +1,7 @@
 -- The tables of the slots, range by range.
 -- Assumes nothing.
 use mathlib.Core.Path.{_≡_}
-use mathlib.Core.Bool.{true, false, _||_, false≢true}
+use mathlib.Core.Bool.{Bool, true, false, cond, _||_, false≢true}
 use mathlib.Core.List.{[]}
 use mathlib.Core.Logic.{⊎-elim}
 use Prim.Native.Nat.{ℕ, _≤_, _<_}
@@ -11,7 +11,7 @@ use lib.Dec.{eqb, leb}
 use Rattle.laws.specs.Ranges.{within, rowOf}
 use Rattle.laws.proofs.Ranges.{inside, below, above, apart, by-row}
 use Rattle.laws.proofs.Test.{both, either}
-use Rattle.message.specs.Slots.{kindOf, hasRole, flagsKept, allowed}
+use Rattle.message.specs.Slots.{kindOf, hasRole, flagsKept, counterKept, allowed}
 use Rattle.message.specs.declared.Kind.the-variants.{KeyN, NoSlot}
 use Rattle.message.specs.declared.Role.{Role}
 
@@ -63,6 +63,29 @@ module _ (s : ℕ) where
   pub kept-14 : 14 ≤ s → 0 ≡ flagsKept s
   unfolding flagsKept rowOf
   kept-14 l = simp (above 1 1 s (omega arith), above 2 3 s (omega arith), above 4 13 s (omega arith))
+
+-- ---- counters
+module _ (s c : ℕ) where
+  pub counter-0 : s < 1 → 0 ≡ counterKept s c
+  unfolding counterKept rowOf
+  counter-0 h = simp (below 1 13 s h)
+
+  pub counter-1-13 : 1 ≤ s → s ≤ 13 → c ≡ counterKept s c
+  unfolding counterKept rowOf
+  counter-1-13 l h = simp (inside 1 13 s l h)
+
+  pub counter-14 : 14 ≤ s → 0 ≡ counterKept s c
+  unfolding counterKept rowOf
+  counter-14 l = simp (above 1 13 s l)
+
+  -- the counter, or 0
+  pub counter-below : counterKept s c ≤ c
+  unfolding counterKept rowOf
+  counter-below = one-or-none (within 1 13 s)
+    where
+      one-or-none : (b : Bool) → cond b c 0 ≤ c
+      one-or-none true = omega arith
+      one-or-none false = omega arith
 
 -- ---- pairs
 module _ (t a : ℕ) where

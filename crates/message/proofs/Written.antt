@@ -13,7 +13,7 @@ use Rattle.message.specs.Answer.{written}
 use Rattle.message.specs.Flags.{flagCount}
 use Rattle.message.specs.FirstBlock.{maxCounter}
 use Rattle.message.specs.Messages.{m1, m2, m3, m4, m5}
-use Rattle.message.specs.Slots.{allowed}
+use Rattle.message.specs.Slots.{counterKept, allowed}
 use Rattle.message.specs.Writer.{messageLengths, messageAnswer, messages, fullForm, proofLengths, proof, answerForm}
 
 -- ---- an answer of 0
@@ -95,7 +95,7 @@ module _ (uid key b4 b5 : List ℕ) (t a c answer : ℕ)
       let other : messageAnswer (proofLengths (length uid) (length key) (length b4) (length b5)) c 0 t a ≡ 0 → ⊥ = λ z. h (e ∙ z) in
       left-proof e (unwritten _ _ _ other) (unwritten _ _ _ other)
 
-  pub proof-written : (a4 a5 : List ℕ) → answer ≡ 0 → a4 ≡ m4 uid t a c key → a5 ≡ m5 key a4 → proof 0 a4 a5 ≡ answerForm uid t a c key b4 b5
+  pub proof-written : (a4 a5 : List ℕ) → answer ≡ 0 → a4 ≡ m4 uid t a (counterKept t c) key → a5 ≡ m5 key a4 → proof 0 a4 a5 ≡ answerForm uid t a c key b4 b5
   unfolding answerForm
   proof-written a4 a5 h e4 e5 =
       let done = sym e ∙ h in

@@ -51,6 +51,10 @@ flagsKept slot =
     ∷ [])
     0
 
+-- slots 1 to 13 have a counter; any other slot keeps 0 for one
+unfoldable pub counterKept : ℕ → ℕ → ℕ
+counterKept slot counter = rowOf slot ((1, 13, counter) ∷ []) 0
+
 -- target 1 by 1; 2 and 3 by 1 or 2; 4 to 13 by 1 or itself; 14 by 4 to 13 or 0. No other
 unfoldable pub allowed : ℕ → ℕ → Bool
 allowed target authority =

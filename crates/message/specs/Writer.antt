@@ -10,7 +10,7 @@ use Rattle.message.specs.Answer.{keyInvalid, firstFault, written}
 use Rattle.message.specs.Flags.{flagCount}
 use Rattle.message.specs.FirstBlock.{maxCounter}
 use Rattle.message.specs.Messages.{build, m4, m5}
-use Rattle.message.specs.Slots.{allowed}
+use Rattle.message.specs.Slots.{counterKept, allowed}
 
 -- UID' 15 bytes, the two keys 16 each; M1, M2 and M3 have room for 16, 32 and 16
 unfoldable pub messageLengths : ℕ → ℕ → ℕ → ℕ → ℕ → ℕ → Bool
@@ -69,10 +69,10 @@ pub record Proof : Type 0 where
 abbrev pub proof : ℕ → List ℕ → List ℕ → Proof
 proof answer m4 m5 = record { answer = answer; m4 = m4; m5 = m5 }
 
--- the same order of checks; there are no flags in it
+-- the same order of checks; there are no flags in it, and the counter is that which the target keeps
 unfoldable pub answerForm : List ℕ → ℕ → ℕ → ℕ → List ℕ → List ℕ → List ℕ → Proof
 answerForm uid target authority counter key before4 before5 =
     let lengths = proofLengths (length uid) (length key) (length before4) (length before5) in
     let answer = messageAnswer lengths counter 0 target authority in
-    let fourth = m4 uid target authority counter key in
+    let fourth = m4 uid target authority (counterKept target counter) key in
     proof answer (written answer fourth before4) (written answer (m5 key fourth) before5)

@@ -17,7 +17,7 @@ ghost use Rattle.message.specs.Flags.{flagCount};
 ghost use Rattle.message.specs.FirstBlock.{firstBlock, counterOf, flagsOf, fillerOf, maxCounter, proofBlock};
 ghost use Rattle.message.specs.Messages.{encKey, slotByte, targetIn, authorityIn, m2, m3, m5};
 ghost use Rattle.message.specs.Opening.{openLengths, opened, openedText, unopened};
-ghost use Rattle.message.specs.Slots.{kindOf, onlyVerifies, hasRole, flagsKept, allowed};
+ghost use Rattle.message.specs.Slots.{kindOf, onlyVerifies, hasRole, flagsKept, counterKept, allowed};
 ghost use Rattle.message.specs.Writer.{messageLengths, messageAnswer, messages, fullForm, shortForm, fleetSheet, proofLengths, proof, answerForm};
 use modes::Constant;
 
@@ -110,6 +110,16 @@ pub fn flags_kept(slot: u8) -> u8
         1 => WRITE | BOOT | DEBUGGER | WILDCARD,
         2..=3 => WRITE | DEBUGGER | WILDCARD,
         4..=13 => WRITE | BOOT | DEBUGGER | WILDCARD | KEY_USAGE,
+        _ => 0,
+    }
+}
+
+// A counter as a slot keeps it: a slot that has none keeps 0.
+pub fn counter_kept(slot: u8, counter: u32) -> u32
+    ensures { λ r. ⌜ r ≡ counterKept slot counter ⌝ }
+{
+    match slot {
+        1..=13 => counter,
         _ => 0,
     }
 }
@@ -406,7 +416,8 @@ fn proof_lengths(uid: usize, key: usize, fourth: usize, fifth: usize) -> bool
     (uid == 15) & (key == 16) & (fourth == 32) & (fifth == 16)
 }
 
-// The M4 and M5 with which a device of this UID proves that it has stored the key with this counter.
+// The M4 and M5 with which a device of this UID proves that it has taken a message with this counter: it names the counter as the
+// target keeps it.
 pub fn write_answer(
     uid: &[u8],
     target: u8,
@@ -423,7 +434,8 @@ pub fn write_answer(
     if answer != NO_ERROR {
         return answer;
     }
-    write_m4(uid, slot_byte(target, authority), counter, key, m4);
+    let stored = counter_kept(target, counter);
+    write_m4(uid, slot_byte(target, authority), stored, key, m4);
     write_m5(key, m4, m5);
     NO_ERROR
 }

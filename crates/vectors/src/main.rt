@@ -33,7 +33,8 @@
 //     f the same                       the fleet sheet, which has no uid and no flags
 //     A uid / target / authority / counter / key / m4 / m5    the answer
 //     O secret / m1 / m2 / m3          opened: whether M3 is right, counter, flags, whether the filler is zero, key
-//     P target / authority             the target's kind, its three roles, the flags that it keeps; whether the pair is allowed
+//     P target / authority             the target's kind, its three roles, the flags that it keeps, 1 as it keeps a counter; whether
+//                                      the pair is allowed
 //     B byte                           target and authority of a slot byte
 ghost use Prim.Native.Nat.{_+_, _≤_, _<_};
 ghost use lib.ListN.{length};
@@ -491,6 +492,7 @@ fn slots(line: &[u8]) {
             message::has_role(target, message::Role::GenerateMac) as u8,
             message::has_role(target, message::Role::VerifyMac) as u8,
             message::flags_kept(target),
+            (message::counter_kept(target, 1) % 256) as u8,
             message::is_allowed(target, authority) as u8,
         ],
     );

@@ -2,13 +2,13 @@
 -- Assumes nothing.
 use mathlib.Core.Bool.{Bool, true}
 use mathlib.Core.List.{[], _∷_, _++_}
-use mathlib.Core.Path.{_≡_, sym, ap, _∙_}
+use mathlib.Core.Path.{_≡_, sym, ap, ap₂, _∙_}
 use Prim.Native.Nat.{ℕ, _≤_, _<_}
 use native.Mathlib.Omega.{arith}
 use lib.ListN.{length}
 use borrow.Author.Needs.{needs}
 use Rattle.aes.specs.Cipher.{cipher}
-use Rattle.message.proofs.Slots.{pair-slots}
+use Rattle.message.proofs.Slots.{pair-slots, counter-below}
 use Rattle.message.proofs.Written.{no-faults, proof-lengths-facts, proof-refused, proof-written}
 use Rattle.message.specs.FirstBlock.{maxCounter, proofBlock}
 use Rattle.message.specs.Messages.{encKey, m1, m4}
@@ -39,16 +39,21 @@ returns : tie.Need-returns
 returns c = let a = c .before .before .before .before .before .before .before .args in
     proof-refused (a .uid .now) (a .key .now) (a .m4 .now) (a .m5 .now) (a .target) (a .authority) (a .counter) _ (answer (c .before)) (c .if1 .taken)
 
+counter-kept-requires : tie.Need-counter-kept-requires
+counter-kept-requires c κs = search needs
+
 slot-byte-requires : tie.Need-slot-byte-requires
-slot-byte-requires c κs = let s = pair-slots _ _ (rules c .3) in (omega (arith, s), omega (arith, s))
+slot-byte-requires c κs = let s = pair-slots _ _ (rules (c .before) .3) in (omega (arith, s), omega (arith, s))
 
 write-m4-requires : tie.Need-write-m4-requires
-write-m4-requires c κs = let o = c .before .before in
+write-m4-requires c κs = let k = c .before .before in
+    let o = k .before in
+    let a = o .before .before .before .before .before .before .before .args in
     let l = lengths o in
-    (l .0, rules o .1, l .1, l .2)
+    (l .0, omega (arith, rules o .1, k .counter-kept .ensures, counter-below (a .target) (a .counter)), l .1, l .2)
 
 write-m5-requires : tie.Need-write-m5-requires
-write-m5-requires c κs = let l = lengths (c .before .before .before .before .before .before .before) in (l .1, omega (arith, l), l .3)
+write-m5-requires c κs = let l = lengths (c .before .before .before .before .before .before .before .before) in (l .1, omega (arith, l), l .3)
 
 same-length : tie.Need-same-length
 same-length c = search needs
@@ -61,9 +66,11 @@ unfolding m4 m1
 returns-2 c = let w5 = c .before .before in
     let w4 = w5 .before .before .before .before .before in
     let b = w4 .before .before in
-    let o = b .before in
+    let k = b .before in
+    let o = k .before in
     let a = o .before .before .before .before .before .before .before .args in
-    let fourth = w4 .write-m4 .ensures ∙ ap (λ (s : ℕ). (a .uid .now ++ (s ∷ [])) ++ cipher (encKey (a .key .now)) (proofBlock (a .counter))) (b .slot-byte .ensures) in
+    let fourth = w4 .write-m4 .ensures
+    ∙ ap₂ (λ (s n : ℕ). (a .uid .now ++ (s ∷ [])) ++ cipher (encKey (a .key .now)) (proofBlock n)) (b .slot-byte .ensures) (k .counter-kept .ensures) in
     proof-written (a .uid .now) (a .key .now) (a .m4 .now) (a .m5 .now) (a .target) (a .authority) (a .counter) _ (answer (o .before))
     (w4 .write-m4 .last .1 .1 .1 .1 .0) (w5 .write-m5 .last .1 .1 .0) (o .if1 .left) fourth (w5 .write-m5 .ensures)
 
@@ -74,6 +81,7 @@ write-answer-spec =
     proof-lengths-requires
     message-answer-requires
     returns
+    counter-kept-requires
     slot-byte-requires
     write-m4-requires
     write-m5-requires
