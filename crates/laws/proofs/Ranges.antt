@@ -1,6 +1,6 @@
 -- Tables by ranges: a row that a number lies in, and one that it does not lie in.
 -- Assumes nothing.
-use mathlib.Core.Path.{_≡_, refl, sym, ap, ap₂, _∙_}
+use mathlib.Core.Path.{_≡_, refl, ap, ap₂, _∙_}
 use mathlib.Core.Bool.{Bool, true, false, cond, _&&_, and-false}
 use mathlib.Core.List.{List, _∷_}
 use mathlib.Core.Logic.{_⊎_, inl, inr}
@@ -30,14 +30,6 @@ apart k n h = tests (leb k n) (leb n k) refl refl
     tests false b l g = refl
 
 module _ {A : Type 0} (n first last : ℕ) (value other : A) (rows : List (ℕ × ℕ × A)) where
-  pub in-row : within first last n ≡ true → value ≡ rowOf n ((first, last, value) ∷ rows) other
-  unfolding rowOf
-  in-row h = sym (ap (λ (b : Bool). cond b value (rowOf n rows other)) h)
-
-  pub past-row : within first last n ≡ false → rowOf n rows other ≡ rowOf n ((first, last, value) ∷ rows) other
-  unfolding rowOf
-  past-row h = sym (ap (λ (b : Bool). cond b value (rowOf n rows other)) h)
-
   -- what a table says is said by its first row, where n lies in it, or by the others
   pub by-row : (x : A) → rowOf n ((first, last, value) ∷ rows) other ≡ x → ((first ≤ n) × (n ≤ last) × (value ≡ x)) ⊎ (rowOf n rows other ≡ x)
   unfolding rowOf

@@ -3,13 +3,15 @@
 use mathlib.Core.Path.{_≡_, refl, sym, ap, ap₂, _∙_}
 use mathlib.Core.Bool.{Bool, true, false, not, cond}
 use mathlib.Core.List.{List}
+use mathlib.Core.Logic.{_⊎_, inl, inr}
 use Prim.Native.Nat.{ℕ, _≤_, _<_}
 use native.Mathlib.Omega.{arith}
 use borrow.Author.Tests.{eq-eqb, ne-eqb, eqb-true, leb-true, not-false}
 use lib.Dec.{eqb, leb}
 use lib.ListN.{length}
 use Rattle.laws.proofs.Test.{both}
-use Rattle.message.specs.Answer.{written}
+use Rattle.modes.specs.Answer.{noError, generalError}
+use Rattle.message.specs.Answer.{keyInvalid, written}
 use Rattle.message.specs.Flags.{flagCount}
 use Rattle.message.specs.FirstBlock.{maxCounter}
 use Rattle.message.specs.Messages.{m1, m2, m3, m4, m5}
@@ -32,6 +34,22 @@ no-faults lengths c f t a e =
     let four = no-fault (not (allowed t a)) 3 0 (λ z. omega arith) (three .1) in
     let flags = leb-true f 31 (not-false _ (three .0)) in
     (not-false _ (one .0), leb-true _ _ (not-false _ (two .0)), omega (arith, flags), not-false _ (four .0))
+
+-- an answer is 0, 3 or 12
+pub answers : (lengths : Bool) (c f t a : ℕ)
+    → (messageAnswer lengths c f t a ≡ noError) ⊎ ((messageAnswer lengths c f t a ≡ keyInvalid) ⊎ (messageAnswer lengths c f t a ≡ generalError))
+unfolding messageAnswer
+answers lengths c f t a =
+    either-way (not lengths) (inr (inr refl))
+    (either-way (not (leb c maxCounter)) (inr (inr refl))
+    (either-way (not (leb f 31)) (inr (inr refl)) (either-way (not (allowed t a)) (inr (inl refl)) (inl refl))))
+  where
+    Numbers : ℕ → Type 0
+    Numbers n = (n ≡ noError) ⊎ ((n ≡ keyInvalid) ⊎ (n ≡ generalError))
+
+    either-way : {x y : ℕ} (b : Bool) → Numbers x → Numbers y → Numbers (cond b x y)
+    either-way true p q = p
+    either-way false p q = q
 
 pub message-lengths-facts : (uid secret key first second third : ℕ) → messageLengths uid secret key first second third ≡ true
     → (uid ≡ 15) × (secret ≡ 16) × (key ≡ 16) × (first ≡ 16) × (second ≡ 32) × (third ≡ 16)
@@ -61,6 +79,18 @@ unwritten answer result before h = sym (ap (λ (b : Bool). cond b result before)
 pub is-written : (answer : ℕ) (result before : List ℕ) → answer ≡ 0 → result ≡ written answer result before
 unfolding written
 is-written answer result before h = sym (ap (λ (b : Bool). cond b result before) (eq-eqb answer 0 h))
+
+-- any answer but 0 leaves the buffers as they were
+pub refusal-leaves : (uid secret key b1 b2 b3 : List ℕ) (t a c f : ℕ) → (fullForm uid t a secret c f key b1 b2 b3 .answer ≡ 0 → ⊥)
+    → (fullForm uid t a secret c f key b1 b2 b3 .m1 ≡ b1) × (fullForm uid t a secret c f key b1 b2 b3 .m2 ≡ b2)
+    × (fullForm uid t a secret c f key b1 b2 b3 .m3 ≡ b3)
+unfolding fullForm
+refusal-leaves uid secret key b1 b2 b3 t a c f other = (sym (unwritten _ _ _ other), sym (unwritten _ _ _ other), sym (unwritten _ _ _ other))
+
+pub proof-refusal-leaves : (uid key b4 b5 : List ℕ) (t a c : ℕ) → (answerForm uid t a c key b4 b5 .answer ≡ 0 → ⊥)
+    → (answerForm uid t a c key b4 b5 .m4 ≡ b4) × (answerForm uid t a c key b4 b5 .m5 ≡ b5)
+unfolding answerForm
+proof-refusal-leaves uid key b4 b5 t a c other = (sym (unwritten _ _ _ other), sym (unwritten _ _ _ other))
 
 -- ---- what is left, part by part
 left : {n n′ : ℕ} {a a′ b b′ c c′ : List ℕ} → n ≡ n′ → a ≡ a′ → b ≡ b′ → c ≡ c′ → messages n a b c ≡ messages n′ a′ b′ c′
