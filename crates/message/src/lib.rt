@@ -20,29 +20,27 @@ ghost use Rattle.message.specs.Opening.{openLengths, opened, openedText,
 ghost use Rattle.message.specs.Slots.{kindOf, onlyVerifies, hasRole, flagsKept, counterKept, allowed};
 ghost use Rattle.message.specs.Writer.{messageLengths, messageAnswer, messages, fullForm, shortForm, fleetSheet, proofLengths, proof, answerForm};
 use modes::Constant;
+use modes::GENERAL_ERROR;
+use modes::NO_ERROR;
 
-// The answers' numbers.
-const NO_ERROR: u8 = 0;
-
-const KEY_INVALID: u8 = 3;
-
-const GENERAL_ERROR: u8 = 12;
+// The answer to what is no slot, or no pair of them.
+pub const KEY_INVALID: u8 = 3;
 
 // The largest counter, of 28 bits.
-const MAX_COUNTER: u32 = 0xfffffff;
+pub const MAX_COUNTER: u32 = 0xfffffff;
 
 // The flags in a number of flags, and all of them.
-const WRITE: u8 = 16;
+pub const WRITE: u8 = 16;
 
-const BOOT: u8 = 8;
+pub const BOOT: u8 = 8;
 
-const DEBUGGER: u8 = 4;
+pub const DEBUGGER: u8 = 4;
 
-const KEY_USAGE: u8 = 2;
+pub const KEY_USAGE: u8 = 2;
 
-const WILDCARD: u8 = 1;
+pub const WILDCARD: u8 = 1;
 
-const ALL_FLAGS: u8 = 31;
+pub const ALL_FLAGS: u8 = 31;
 
 // What the short form writes.
 const SHORT_FLAGS: u8 = 0;

@@ -20,9 +20,9 @@ ghost use Rattle.modes.specs.Constants.{constantOf};
 ghost use Rattle.modes.specs.Routines.{ecbEncryption, ecbDecryption, cbcEncryption, cbcDecryption, authentication, compression, derivation};
 
 // The answers' numbers.
-const NO_ERROR: u8 = 0;
+pub const NO_ERROR: u8 = 0;
 
-const GENERAL_ERROR: u8 = 12;
+pub const GENERAL_ERROR: u8 = 12;
 
 // ---- blocks and buffers
 
