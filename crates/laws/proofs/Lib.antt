@@ -1,4 +1,5 @@
 pub mod Each
+pub mod Lengths
 pub mod Paste
 pub mod Powers
 pub mod Ranges

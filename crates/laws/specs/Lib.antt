@@ -1,3 +1,4 @@
+pub mod Lengths
 pub mod Ranges
 pub mod Same
 pub mod Tabulate

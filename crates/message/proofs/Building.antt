@@ -10,6 +10,7 @@ use native.Mathlib.Omega.{arith}
 use borrow.Author.Tests.{eqb-true}
 use lib.ListN.{length, take, drop, length-append, take-append-drop, drop-of-length-le}
 use lib.Seq.{take-at, drop-at, getD-at, split-at}
+use Rattle.laws.specs.Lengths.{right}
 use Rattle.laws.specs.Same.{same}
 use Rattle.laws.proofs.Same.{same-equal, equal-same}
 use Rattle.laws.proofs.Test.{both}
@@ -104,19 +105,19 @@ read n few c f key hc hf =
     rw (front, back, counter-packed n few c f hc hf, flags-packed n few c f hc hf, filler-packed n few c f hc hf)
 
 module _ (n : ℕ) (few : n ≤ 100) (secret one two three : List ℕ) (hs : Block secret) (h1 : length one ≡ 16) (h2 : Text 2 two) (h3 : length three ≡ 16) where
-  right : openLengths (length secret) (length one) (length two) (length three) ≡ true
-  unfolding openLengths
-  right = rw (hs .long, h1, h2 .long, h3)
+  lengths : right (openLengths (length secret) (length one) (length two) (length three)) ≡ true
+  unfolding right
+  lengths = rw (hs .long, h1, h2 .long, h3)
 
   -- where M3 is the MAC of M1 and M2 it is opened, and nowhere else
   opened-text : three ≡ m3 secret one two → opened n secret one two three ≡ openedText n (clearText secret two)
-  opened-text e = sym (opened-by-m3 n secret one two three right (same-equal three (m3 secret one two) e))
+  opened-text e = sym (opened-by-m3 n secret one two three lengths (same-equal three (m3 secret one two) e))
 
   genuine-m3 : opened n secret one two three .genuine ≡ true → three ≡ m3 secret one two
   unfolding opened
   genuine-m3 e =
-      let passed = opened-only (openLengths (length secret) (length one) (length two) (length three) && same three (m3 secret one two)) (openedText n (clearText secret two)) e in
-      equal-same three (m3 secret one two) (both (openLengths (length secret) (length one) (length two) (length three)) (same three (m3 secret one two)) passed .1)
+      let passed = opened-only (right (openLengths (length secret) (length one) (length two) (length three)) && same three (m3 secret one two)) (openedText n (clearText secret two)) e in
+      equal-same three (m3 secret one two) (both (right (openLengths (length secret) (length one) (length two) (length three))) (same three (m3 secret one two)) passed .1)
 
   -- these parts build these very messages, for whom M1 names
   abbrev pub Builds : ℕ → ℕ → List ℕ → Type 0

@@ -1,6 +1,7 @@
 -- What the modes give on buffers of the lengths that messages have.
 -- Assumes nothing.
 use mathlib.Core.Path.{_≡_, _∙_}
+use mathlib.Core.Bool.{true}
 use mathlib.Core.List.{List}
 use Prim.Native.Nat.{ℕ}
 use lib.ListN.{length}
@@ -28,13 +29,7 @@ module _ (key before after : List ℕ) (hk : length key ≡ 16) where
   unfolding cbcLengths
   decrypts iv text hi ht hb e = e ∙ succeeded _ _ before (rw (hk, hi, ht, hb))
 
-  -- two blocks, and three
-  pub signs-two : (message : List ℕ) → length message ≡ 32 → length before ≡ 16 → after ≡ authentication key 256 message before .output
-      → after ≡ cmac (cipher key) 256 message
-  unfolding cmacLengths
-  signs-two message hm hb e = e ∙ succeeded _ _ before (rw (hk, hm, hb))
-
-  pub signs-three : (message : List ℕ) → length message ≡ 48 → length before ≡ 16 → after ≡ authentication key 384 message before .output
-      → after ≡ cmac (cipher key) 384 message
-  unfolding cmacLengths
-  signs-three message hm hb e = e ∙ succeeded _ _ before (rw (hk, hm, hb))
+  -- so many bits in so many bytes, where CMAC takes these
+  pub signs : (bits size : ℕ) (message : List ℕ) → cmacLengths 16 bits size 16 ≡ true → length message ≡ size → length before ≡ 16
+      → after ≡ authentication key bits message before .output → after ≡ cmac (cipher key) bits message
+  signs bits size message taken hm hb e = e ∙ succeeded _ _ before (rw (hk, hm, hb) taken)

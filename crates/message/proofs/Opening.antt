@@ -4,26 +4,15 @@ use mathlib.Core.Path.{_≡_, refl, sym, ap₂}
 use mathlib.Core.Bool.{Bool, true, false, cond, _&&_}
 use mathlib.Core.List.{List}
 use Prim.Native.Nat.{ℕ}
-use lib.Dec.{eqb}
 use lib.ListN.{length}
-use borrow.Author.Tests.{eqb-true}
+use Rattle.laws.specs.Lengths.{right}
 use Rattle.laws.specs.Same.{same}
-use Rattle.laws.proofs.Test.{both}
 use Rattle.message.specs.Messages.{m3}
 use Rattle.message.specs.Opening.{openLengths, clearText, openedText, unopened, opened}
 
-pub open-lengths-facts : (secret one two three : ℕ) → openLengths secret one two three ≡ true
-    → (secret ≡ 16) × (one ≡ 16) × (two ≡ 32) × (three ≡ 16)
-unfolding openLengths
-open-lengths-facts secret one two three h =
-    let c = both _ (eqb three 16) h in
-    let b = both _ (eqb two 32) (c .0) in
-    let a = both (eqb secret 16) (eqb one 16) (b .0) in
-    (eqb-true _ _ (a .0), eqb-true _ _ (a .1), eqb-true _ _ (b .1), eqb-true _ _ (c .1))
-
 module _ (n : ℕ) (secret one two three : List ℕ) where
   abbrev Lengths : Bool
-  Lengths = openLengths (length secret) (length one) (length two) (length three)
+  Lengths = right (openLengths (length secret) (length one) (length two) (length three))
 
   by-tests : (lengths mac : Bool) → Lengths ≡ lengths → same three (m3 secret one two) ≡ mac
       → cond (lengths && mac) (openedText n (clearText secret two)) unopened ≡ opened n secret one two three

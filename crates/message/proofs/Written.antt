@@ -6,10 +6,11 @@ use mathlib.Core.List.{List}
 use mathlib.Core.Logic.{_⊎_, inl, inr}
 use Prim.Native.Nat.{ℕ, _≤_, _<_}
 use native.Mathlib.Omega.{arith}
-use borrow.Author.Tests.{eq-eqb, ne-eqb, eqb-true, leb-true, not-false}
-use lib.Dec.{eqb, leb}
+use borrow.Author.Tests.{leb-true, not-false}
+use lib.Dec.{leb}
 use lib.ListN.{length}
-use Rattle.laws.proofs.Test.{both}
+use Rattle.laws.specs.Lengths.{right}
+use Rattle.laws.proofs.Test.{where-equal, where-other}
 use Rattle.modes.specs.Answer.{noError, generalError}
 use Rattle.message.specs.Answer.{keyInvalid, written}
 use Rattle.message.specs.Flags.{flagCount}
@@ -51,34 +52,14 @@ answers lengths c f t a =
     either-way true p q = p
     either-way false p q = q
 
-pub message-lengths-facts : (uid secret key first second third : ℕ) → messageLengths uid secret key first second third ≡ true
-    → (uid ≡ 15) × (secret ≡ 16) × (key ≡ 16) × (first ≡ 16) × (second ≡ 32) × (third ≡ 16)
-unfolding messageLengths
-message-lengths-facts uid secret key first second third h =
-    let e = both _ (eqb third 16) h in
-    let d = both _ (eqb second 32) (e .0) in
-    let c = both _ (eqb first 16) (d .0) in
-    let b = both _ (eqb key 16) (c .0) in
-    let a = both (eqb uid 15) (eqb secret 16) (b .0) in
-    (eqb-true _ _ (a .0), eqb-true _ _ (a .1), eqb-true _ _ (b .1), eqb-true _ _ (c .1), eqb-true _ _ (d .1), eqb-true _ _ (e .1))
-
-pub proof-lengths-facts : (uid key fourth fifth : ℕ) → proofLengths uid key fourth fifth ≡ true
-    → (uid ≡ 15) × (key ≡ 16) × (fourth ≡ 32) × (fifth ≡ 16)
-unfolding proofLengths
-proof-lengths-facts uid key fourth fifth h =
-    let c = both _ (eqb fifth 16) h in
-    let b = both _ (eqb fourth 32) (c .0) in
-    let a = both (eqb uid 15) (eqb key 16) (b .0) in
-    (eqb-true _ _ (a .0), eqb-true _ _ (a .1), eqb-true _ _ (b .1), eqb-true _ _ (c .1))
-
 -- ---- a buffer
 pub unwritten : (answer : ℕ) (result before : List ℕ) → (answer ≡ 0 → ⊥) → before ≡ written answer result before
 unfolding written
-unwritten answer result before h = sym (ap (λ (b : Bool). cond b result before) (ne-eqb answer 0 h))
+unwritten answer result before h = where-other answer 0 result before h
 
 pub is-written : (answer : ℕ) (result before : List ℕ) → answer ≡ 0 → result ≡ written answer result before
 unfolding written
-is-written answer result before h = sym (ap (λ (b : Bool). cond b result before) (eq-eqb answer 0 h))
+is-written answer result before h = where-equal answer 0 result before h
 
 -- any answer but 0 leaves the buffers as they were
 pub refusal-leaves : (uid secret key b1 b2 b3 : List ℕ) (t a c f : ℕ) → (fullForm uid t a secret c f key b1 b2 b3 .answer ≡ 0 → ⊥)
@@ -101,11 +82,11 @@ left-proof {n′ = n′} {a′ = a′} {b = b} p q r = ap₂ (λ (x : ℕ) (y : 
 
 -- ---- the full form
 module _ (uid secret key b1 b2 b3 : List ℕ) (t a c f answer : ℕ)
-    (e : answer ≡ messageAnswer (messageLengths (length uid) (length secret) (length key) (length b1) (length b2) (length b3)) c f t a) where
+    (e : answer ≡ messageAnswer (right (messageLengths (length uid) (length secret) (length key) (length b1) (length b2) (length b3))) c f t a) where
   pub messages-refused : (answer ≡ 0 → ⊥) → messages answer b1 b2 b3 ≡ fullForm uid t a secret c f key b1 b2 b3
   unfolding fullForm
   messages-refused h =
-      let other : messageAnswer (messageLengths (length uid) (length secret) (length key) (length b1) (length b2) (length b3)) c f t a ≡ 0 → ⊥
+      let other : messageAnswer (right (messageLengths (length uid) (length secret) (length key) (length b1) (length b2) (length b3))) c f t a ≡ 0 → ⊥
       = λ z. h (e ∙ z) in
       left e (unwritten _ _ _ other) (unwritten _ _ _ other) (unwritten _ _ _ other)
 
@@ -118,11 +99,11 @@ module _ (uid secret key b1 b2 b3 : List ℕ) (t a c f answer : ℕ)
 
 -- ---- the device's proof
 module _ (uid key b4 b5 : List ℕ) (t a c answer : ℕ)
-    (e : answer ≡ messageAnswer (proofLengths (length uid) (length key) (length b4) (length b5)) c 0 t a) where
+    (e : answer ≡ messageAnswer (right (proofLengths (length uid) (length key) (length b4) (length b5))) c 0 t a) where
   pub proof-refused : (answer ≡ 0 → ⊥) → proof answer b4 b5 ≡ answerForm uid t a c key b4 b5
   unfolding answerForm
   proof-refused h =
-      let other : messageAnswer (proofLengths (length uid) (length key) (length b4) (length b5)) c 0 t a ≡ 0 → ⊥ = λ z. h (e ∙ z) in
+      let other : messageAnswer (right (proofLengths (length uid) (length key) (length b4) (length b5))) c 0 t a ≡ 0 → ⊥ = λ z. h (e ∙ z) in
       left-proof e (unwritten _ _ _ other) (unwritten _ _ _ other)
 
   pub proof-written : (a4 a5 : List ℕ) → answer ≡ 0 → a4 ≡ m4 uid t a (counterKept t c) key → a5 ≡ m5 key a4 → proof 0 a4 a5 ≡ answerForm uid t a c key b4 b5

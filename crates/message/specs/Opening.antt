@@ -1,10 +1,11 @@
 -- Opening M1 to M3 under the authority's key, on the device's side.
 -- Assumes nothing.
-use mathlib.Core.Bool.{Bool, true, false, cond, _&&_}
-use mathlib.Core.List.{List}
+use mathlib.Core.Bool.{true, false, cond, _&&_}
+use mathlib.Core.List.{List, [], _∷_}
 use Prim.Native.Nat.{ℕ}
 use lib.Dec.{eqb}
 use lib.ListN.{length, take, drop}
+use Rattle.laws.specs.Lengths.{right}
 use Rattle.laws.specs.Same.{same}
 use Rattle.aes.specs.Cipher.{invCipher}
 use Rattle.modes.specs.Blocks.{zeroBlock}
@@ -14,8 +15,8 @@ use Rattle.message.specs.Messages.{encKey, m3}
 use Rattle.message.specs.declared.Opened.{Opened}
 
 -- the authority's key 16 bytes, M1 16, M2 32, M3 16
-unfoldable pub openLengths : ℕ → ℕ → ℕ → ℕ → Bool
-openLengths secret m1 m2 m3 = eqb secret 16 && eqb m1 16 && eqb m2 32 && eqb m3 16
+abbrev pub openLengths : ℕ → ℕ → ℕ → ℕ → List (ℕ × ℕ)
+openLengths secret m1 m2 m3 = (secret, 16) ∷ (m1, 16) ∷ (m2, 32) ∷ (m3, 16) ∷ []
 
 -- what M2 holds in clear: the first block, and the new key
 unfoldable pub clearText : List ℕ → List ℕ → List ℕ
@@ -38,6 +39,6 @@ unopened = record { genuine = false; counter = 0; flags = 0; zeros = false; key 
 -- M2 is deciphered where M3 is the MAC of M1 | M2, and then alone
 unfoldable pub opened : ℕ → List ℕ → List ℕ → List ℕ → List ℕ → Opened
 opened n secret m1 m2 m3′ =
-    cond (openLengths (length secret) (length m1) (length m2) (length m3′) && same m3′ (m3 secret m1 m2))
+    cond (right (openLengths (length secret) (length m1) (length m2) (length m3′)) && same m3′ (m3 secret m1 m2))
     (openedText n (clearText secret m2))
     unopened

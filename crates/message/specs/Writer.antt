@@ -1,10 +1,11 @@
 -- The writer of key messages on the sender's side: what each of its forms leaves, for buffers of any lengths and any numbers.
 -- Assumes nothing.
-use mathlib.Core.Bool.{Bool, not, _&&_}
+use mathlib.Core.Bool.{Bool, not}
 use mathlib.Core.List.{List, [], _∷_}
 use Prim.Native.Nat.{ℕ, _-_, _^_}
-use lib.Dec.{eqb, leb}
+use lib.Dec.{leb}
 use lib.ListN.{length, replicate}
+use Rattle.laws.specs.Lengths.{right}
 use Rattle.modes.specs.Answer.{generalError}
 use Rattle.message.specs.Answer.{keyInvalid, firstFault, written}
 use Rattle.message.specs.Flags.{flagCount}
@@ -13,9 +14,8 @@ use Rattle.message.specs.Messages.{build, m4, m5}
 use Rattle.message.specs.Slots.{counterKept, allowed}
 
 -- UID' 15 bytes, the two keys 16 each; M1, M2 and M3 have room for 16, 32 and 16
-unfoldable pub messageLengths : ℕ → ℕ → ℕ → ℕ → ℕ → ℕ → Bool
-messageLengths uid secret key m1 m2 m3 =
-    eqb uid 15 && eqb secret 16 && eqb key 16 && eqb m1 16 && eqb m2 32 && eqb m3 16
+abbrev pub messageLengths : ℕ → ℕ → ℕ → ℕ → ℕ → ℕ → List (ℕ × ℕ)
+messageLengths uid secret key m1 m2 m3 = (uid, 15) ∷ (secret, 16) ∷ (key, 16) ∷ (m1, 16) ∷ (m2, 32) ∷ (m3, 16) ∷ []
 
 -- in the order 12, 3: a wrong length, a counter above 268,435,455, flags above 31; a pair that is not allowed
 unfoldable pub messageAnswer : Bool → ℕ → ℕ → ℕ → ℕ → ℕ
@@ -41,7 +41,7 @@ messages answer m1 m2 m3 = record { answer = answer; m1 = m1; m2 = m2; m3 = m3 }
 unfoldable pub fullForm : List ℕ → ℕ → ℕ → List ℕ → ℕ → ℕ → List ℕ → List ℕ → List ℕ → List ℕ → Messages
 fullForm uid target authority secret counter flags key before1 before2 before3 =
     let lengths = messageLengths (length uid) (length secret) (length key) (length before1) (length before2) (length before3) in
-    let answer = messageAnswer lengths counter flags target authority in
+    let answer = messageAnswer (right lengths) counter flags target authority in
     let built = build flagCount uid target authority secret counter flags key in
     messages answer (written answer (built .m1) before1) (written answer (built .m2) before2) (written answer (built .m3) before3)
 
@@ -58,8 +58,8 @@ fleetSheet target authority secret counter key = shortForm (replicate 15 0) targ
 
 -- ---- the proof that a device of a UID answers
 -- UID 15 bytes, the new key 16; M4 and M5 have room for 32 and 16
-unfoldable pub proofLengths : ℕ → ℕ → ℕ → ℕ → Bool
-proofLengths uid key m4 m5 = eqb uid 15 && eqb key 16 && eqb m4 32 && eqb m5 16
+abbrev pub proofLengths : ℕ → ℕ → ℕ → ℕ → List (ℕ × ℕ)
+proofLengths uid key m4 m5 = (uid, 15) ∷ (key, 16) ∷ (m4, 32) ∷ (m5, 16) ∷ []
 
 pub record Proof : Type 0 where
   pub answer : ℕ
@@ -73,6 +73,6 @@ proof answer m4 m5 = record { answer = answer; m4 = m4; m5 = m5 }
 unfoldable pub answerForm : List ℕ → ℕ → ℕ → ℕ → List ℕ → List ℕ → List ℕ → Proof
 answerForm uid target authority counter key before4 before5 =
     let lengths = proofLengths (length uid) (length key) (length before4) (length before5) in
-    let answer = messageAnswer lengths counter 0 target authority in
+    let answer = messageAnswer (right lengths) counter 0 target authority in
     let fourth = m4 uid target authority (counterKept target counter) key in
     proof answer (written answer fourth before4) (written answer (m5 key fourth) before5)

@@ -9,6 +9,7 @@ ghost use Prim.Native.Nat.{_+_, _≤_, _<_};
 ghost use lib.Dec.{eqb};
 ghost use lib.ListN.{length, take, drop};
 ghost use lib.Seq.{paste};
+ghost use Rattle.laws.specs.Lengths.{right};
 ghost use Rattle.laws.specs.Same.{same};
 ghost use Rattle.aes.specs.Cipher.{cipher};
 ghost use Rattle.modes.specs.Compression.{kdf};
@@ -298,7 +299,7 @@ fn message_lengths(
     second: usize,
     third: usize,
 ) -> bool
-    ensures { λ r. ⌜ r ≡ messageLengths uid secret key first second third ⌝ }
+    ensures { λ r. ⌜ r ≡ right (messageLengths uid secret key first second third) ⌝ }
 {
     (uid == 15) & (secret == 16) & (key == 16) & (first == 16) & (second == 32) & (third == 16)
 }
@@ -409,7 +410,7 @@ pub fn fleet_sheet(
 }
 
 fn proof_lengths(uid: usize, key: usize, fourth: usize, fifth: usize) -> bool
-    ensures { λ r. ⌜ r ≡ proofLengths uid key fourth fifth ⌝ }
+    ensures { λ r. ⌜ r ≡ right (proofLengths uid key fourth fifth) ⌝ }
 {
     (uid == 15) & (key == 16) & (fourth == 32) & (fifth == 16)
 }
@@ -463,7 +464,7 @@ fn not_opened() -> Opened
 }
 
 fn open_lengths(secret: usize, first: usize, second: usize, third: usize) -> bool
-    ensures { λ r. ⌜ r ≡ openLengths secret first second third ⌝ }
+    ensures { λ r. ⌜ r ≡ right (openLengths secret first second third) ⌝ }
 {
     (secret == 16) & (first == 16) & (second == 32) & (third == 16)
 }

@@ -8,11 +8,13 @@ use lib.ListN.{length, replicate}
 use borrow.Author.Needs.{needs}
 use borrow.Author.Tests.{not-true, not-false}
 use Rattle.aes.specs.Cipher.{invCipher}
+use Rattle.laws.proofs.Lengths.{each-right}
+use Rattle.laws.specs.Lengths.{right}
 use Rattle.laws.specs.Same.{same}
 use Rattle.modes.specs.Blocks.{zeroBlock}
 use Rattle.modes.specs.Cbc.{cbcDecrypt}
 use Rattle.message.proofs.Calls.{decrypts}
-use Rattle.message.proofs.Opening.{open-lengths-facts, closed-by-lengths, closed-by-m3, opened-by-m3}
+use Rattle.message.proofs.Opening.{closed-by-lengths, closed-by-m3, opened-by-m3}
 use Rattle.message.specs.Flags.{flagCount}
 use Rattle.message.specs.Messages.{m3}
 use Rattle.message.specs.Opening.{openLengths, clearText, openedText}
@@ -20,8 +22,8 @@ use Rattle.message.proofs.open.Statement.{statement}
 use Rattle.message.proofs.open.Tie as tie
 
 -- past the first test the lengths are right
-right : (c : tie.Else1) → let a = c .before .before .before .before .before .before .args in openLengths (length (a .secret .now)) (length (a .m1 .now)) (length (a .m2 .now)) (length (a .m3 .now)) ≡ true
-right c = sym (c .before .open-lengths .ensures) ∙ not-false _ (c .if1 .left)
+passed : (c : tie.Else1) → let a = c .before .before .before .before .before .before .args in right (openLengths (length (a .secret .now)) (length (a .m1 .now)) (length (a .m2 .now)) (length (a .m3 .now))) ≡ true
+passed c = sym (c .before .open-lengths .ensures) ∙ not-false _ (c .if1 .left)
 
 -- what M3 is compared with
 compared : (c : tie.After-is-same) → let a = c .before .before .before .before .before .before .before .before .before .before .before .args in c .is-same .result ≡ same (a .m3 .now) (m3 (a .secret .now) (a .m1 .now) (a .m2 .now))
@@ -45,7 +47,7 @@ slice-aggregate-write-m3 : tie.Need-slice-aggregate-write-m3
 slice-aggregate-write-m3 c = search needs
 
 write-m3-requires : tie.Need-write-m3-requires
-write-m3-requires c κs = let f = open-lengths-facts _ _ _ _ (right (c .before)) in (f .0, f .1, f .2, refl)
+write-m3-requires c κs = let l = each-right _ (passed (c .before)) in (l 0, l 1, l 2, refl)
 
 slice-aggregate-is-same : tie.Need-slice-aggregate-is-same
 slice-aggregate-is-same c = search needs
@@ -61,10 +63,10 @@ returns-2 c = let s = c .before .before in
     let l = s .before .before .before .before .before in
     let a = l .before .before .before .before .before .before .args in
     c .not-opened2 .ensures
-    ∙ closed-by-m3 flagCount (a .secret .now) (a .m1 .now) (a .m2 .now) (a .m3 .now) (right l) (sym (compared s) ∙ not-true _ (c .before .if2 .taken))
+    ∙ closed-by-m3 flagCount (a .secret .now) (a .m1 .now) (a .m2 .now) (a .m3 .now) (passed l) (sym (compared s) ∙ not-true _ (c .before .if2 .taken))
 
 derived-requires : tie.Need-derived-requires
-derived-requires c κs = open-lengths-facts _ _ _ _ (right (c .before .before .before .before .before .before)) .0
+derived-requires c κs = each-right _ (passed (c .before .before .before .before .before .before)) 0
 
 slice-aggregate-cbc-decrypt : tie.Need-slice-aggregate-cbc-decrypt
 slice-aggregate-cbc-decrypt c = search needs
@@ -88,11 +90,10 @@ returns-3 c = let m = c .before .before in
     let s = d .before .before in
     let l = s .before .before .before .before .before in
     let a = l .before .before .before .before .before .before .args in
-    let f = open-lengths-facts _ _ _ _ (right l) in
-    let clear = decrypts (d .derived .result) (replicate 32 0) _ (search needs) zeroBlock (a .m2 .now) refl (f .2) refl (m .cbc-decrypt .ensures .1) in
+    let clear = decrypts (d .derived .result) (replicate 32 0) _ (search needs) zeroBlock (a .m2 .now) refl (each-right _ (passed l) 2) refl (m .cbc-decrypt .ensures .1) in
     c .read-clear .ensures
     ∙ ap (openedText flagCount) (clear ∙ ap (λ (k : List ℕ). cbcDecrypt (invCipher k) zeroBlock (a .m2 .now)) (d .derived .ensures))
-    ∙ opened-by-m3 flagCount (a .secret .now) (a .m1 .now) (a .m2 .now) (a .m3 .now) (right l) (sym (compared s) ∙ not-false _ (d .before .if2 .left))
+    ∙ opened-by-m3 flagCount (a .secret .now) (a .m1 .now) (a .m2 .now) (a .m3 .now) (passed l) (sym (compared s) ∙ not-false _ (d .before .if2 .left))
 
 pub open-spec : {M : Type 1} → statement M
 open-spec =

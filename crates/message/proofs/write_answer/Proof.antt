@@ -8,8 +8,10 @@ use native.Mathlib.Omega.{arith}
 use lib.ListN.{length}
 use borrow.Author.Needs.{needs}
 use Rattle.aes.specs.Cipher.{cipher}
+use Rattle.laws.proofs.Lengths.{Right, each-right}
+use Rattle.laws.specs.Lengths.{right}
 use Rattle.message.proofs.Slots.{pair-slots, counter-below}
-use Rattle.message.proofs.Written.{no-faults, proof-lengths-facts, proof-refused, proof-written}
+use Rattle.message.proofs.Written.{no-faults, proof-refused, proof-written}
 use Rattle.message.specs.FirstBlock.{maxCounter, proofBlock}
 use Rattle.message.specs.Messages.{encKey, m1, m4}
 use Rattle.message.specs.Slots.{allowed}
@@ -18,16 +20,16 @@ use Rattle.message.proofs.write_answer.Statement.{statement}
 use Rattle.message.proofs.write_answer.Tie as tie
 
 -- the answer, and what is known past it
-answer : (c : tie.After-message-answer) → let a = c .before .before .before .before .before .before .args in c .message-answer .result ≡ messageAnswer (proofLengths (length (a .uid .now)) (length (a .key .now)) (length (a .m4 .now)) (length (a .m5 .now))) (a .counter) 0 (a .target) (a .authority)
+answer : (c : tie.After-message-answer) → let a = c .before .before .before .before .before .before .args in c .message-answer .result ≡ messageAnswer (right (proofLengths (length (a .uid .now)) (length (a .key .now)) (length (a .m4 .now)) (length (a .m5 .now)))) (a .counter) 0 (a .target) (a .authority)
 answer c = let a = c .before .before .before .before .before .before .args in
     c .message-answer .ensures ∙ ap (λ (l : Bool). messageAnswer l (a .counter) 0 (a .target) (a .authority)) (c .before .proof-lengths .ensures)
 
 module _ (c : tie.Else1) where
-  rules : let a = c .before .before .before .before .before .before .before .args in (proofLengths (length (a .uid .now)) (length (a .key .now)) (length (a .m4 .now)) (length (a .m5 .now)) ≡ true) × (a .counter ≤ maxCounter) × (0 < 32) × (allowed (a .target) (a .authority) ≡ true)
+  rules : let a = c .before .before .before .before .before .before .before .args in (right (proofLengths (length (a .uid .now)) (length (a .key .now)) (length (a .m4 .now)) (length (a .m5 .now))) ≡ true) × (a .counter ≤ maxCounter) × (0 < 32) × (allowed (a .target) (a .authority) ≡ true)
   rules = no-faults _ _ _ _ _ (sym (answer (c .before)) ∙ c .if1 .left)
 
-  lengths : let a = c .before .before .before .before .before .before .before .args in (length (a .uid .now) ≡ 15) × (length (a .key .now) ≡ 16) × (length (a .m4 .now) ≡ 32) × (length (a .m5 .now) ≡ 16)
-  lengths = proof-lengths-facts _ _ _ _ (rules .0)
+  lengths : let a = c .before .before .before .before .before .before .before .args in (k : ℕ) → Right (proofLengths (length (a .uid .now)) (length (a .key .now)) (length (a .m4 .now)) (length (a .m5 .now))) k
+  lengths = each-right _ (rules .0)
 
 proof-lengths-requires : tie.Need-proof-lengths-requires
 proof-lengths-requires c κs = search needs
@@ -50,10 +52,10 @@ write-m4-requires c κs = let k = c .before .before in
     let o = k .before in
     let a = o .before .before .before .before .before .before .before .args in
     let l = lengths o in
-    (l .0, omega (arith, rules o .1, k .counter-kept .ensures, counter-below (a .target) (a .counter)), l .1, l .2)
+    (l 0, omega (arith, rules o .1, k .counter-kept .ensures, counter-below (a .target) (a .counter)), l 1, l 2)
 
 write-m5-requires : tie.Need-write-m5-requires
-write-m5-requires c κs = let l = lengths (c .before .before .before .before .before .before .before .before) in (l .1, omega (arith, l), l .3)
+write-m5-requires c κs = let l = lengths (c .before .before .before .before .before .before .before .before) in (l 1, omega (arith, l 2), l 3)
 
 same-length : tie.Need-same-length
 same-length c = search needs

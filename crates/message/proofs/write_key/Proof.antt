@@ -8,8 +8,10 @@ use native.Mathlib.Omega.{arith}
 use lib.ListN.{length}
 use lib.Seq.{take-all}
 use borrow.Author.Needs.{needs}
+use Rattle.laws.proofs.Lengths.{Right, each-right}
+use Rattle.laws.specs.Lengths.{right}
 use Rattle.message.proofs.Slots.{pair-slots}
-use Rattle.message.proofs.Written.{no-faults, message-lengths-facts, messages-refused, messages-written}
+use Rattle.message.proofs.Written.{no-faults, messages-refused, messages-written}
 use Rattle.message.specs.FirstBlock.{maxCounter}
 use Rattle.message.specs.Messages.{m1}
 use Rattle.message.specs.Slots.{allowed}
@@ -18,16 +20,16 @@ use Rattle.message.proofs.write_key.Statement.{statement}
 use Rattle.message.proofs.write_key.Tie as tie
 
 -- the answer, and what is known past it
-answer : (c : tie.After-message-answer) → let a = c .before .before .before .before .before .before .before .before .args in c .message-answer .result ≡ messageAnswer (messageLengths (length (a .uid .now)) (length (a .secret .now)) (length (a .key .now)) (length (a .m1 .now)) (length (a .m2 .now)) (length (a .m3 .now))) (a .counter) (a .flags) (a .target) (a .authority)
+answer : (c : tie.After-message-answer) → let a = c .before .before .before .before .before .before .before .before .args in c .message-answer .result ≡ messageAnswer (right (messageLengths (length (a .uid .now)) (length (a .secret .now)) (length (a .key .now)) (length (a .m1 .now)) (length (a .m2 .now)) (length (a .m3 .now)))) (a .counter) (a .flags) (a .target) (a .authority)
 answer c = let a = c .before .before .before .before .before .before .before .before .args in
     c .message-answer .ensures ∙ ap (λ (l : Bool). messageAnswer l (a .counter) (a .flags) (a .target) (a .authority)) (c .before .message-lengths .ensures)
 
 module _ (c : tie.Else1) where
-  rules : let a = c .before .before .before .before .before .before .before .before .before .args in (messageLengths (length (a .uid .now)) (length (a .secret .now)) (length (a .key .now)) (length (a .m1 .now)) (length (a .m2 .now)) (length (a .m3 .now)) ≡ true) × (a .counter ≤ maxCounter) × (a .flags < 32) × (allowed (a .target) (a .authority) ≡ true)
+  rules : let a = c .before .before .before .before .before .before .before .before .before .args in (right (messageLengths (length (a .uid .now)) (length (a .secret .now)) (length (a .key .now)) (length (a .m1 .now)) (length (a .m2 .now)) (length (a .m3 .now))) ≡ true) × (a .counter ≤ maxCounter) × (a .flags < 32) × (allowed (a .target) (a .authority) ≡ true)
   rules = no-faults _ _ _ _ _ (sym (answer (c .before)) ∙ c .if1 .left)
 
-  lengths : let a = c .before .before .before .before .before .before .before .before .before .args in (length (a .uid .now) ≡ 15) × (length (a .secret .now) ≡ 16) × (length (a .key .now) ≡ 16) × (length (a .m1 .now) ≡ 16) × (length (a .m2 .now) ≡ 32) × (length (a .m3 .now) ≡ 16)
-  lengths = message-lengths-facts _ _ _ _ _ _ (rules .0)
+  lengths : let a = c .before .before .before .before .before .before .before .before .before .args in (k : ℕ) → Right (messageLengths (length (a .uid .now)) (length (a .secret .now)) (length (a .key .now)) (length (a .m1 .now)) (length (a .m2 .now)) (length (a .m3 .now))) k
+  lengths = each-right _ (rules .0)
 
 message-lengths-requires : tie.Need-message-lengths-requires
 message-lengths-requires c κs = search needs
@@ -43,15 +45,15 @@ slot-byte-requires : tie.Need-slot-byte-requires
 slot-byte-requires c κs = let s = pair-slots _ _ (rules c .3) in (omega (arith, s), omega (arith, s))
 
 write-head-requires : tie.Need-write-head-requires
-write-head-requires c κs = let l = lengths (c .before .before) in (l .0, omega (arith, l))
+write-head-requires c κs = let l = lengths (c .before .before) in (l 0, omega (arith, l 3))
 
 write-m2-requires : tie.Need-write-m2-requires
 write-m2-requires c κs = let o = c .before .before .before .before .before .before in
     let l = lengths o in
-    (l .1, rules o .1, rules o .2, l .2, l .4)
+    (l 1, rules o .1, rules o .2, l 2, l 4)
 
 write-m3-requires : tie.Need-write-m3-requires
-write-m3-requires c κs = let l = lengths (c .before .before .before .before .before .before .before .before .before .before .before .before) in (l .1, omega (arith, l), omega (arith, l), l .5)
+write-m3-requires c κs = let l = lengths (c .before .before .before .before .before .before .before .before .before .before .before .before) in (l 1, omega (arith, l 3), omega (arith, l 4), l 5)
 
 same-length : tie.Need-same-length
 same-length c = search needs
@@ -71,7 +73,7 @@ returns-2 c = let w3 = c .before .before in
     let o = b .before in
     let a = o .before .before .before .before .before .before .before .before .before .args in
     let first = w1 .write-head .last .1 .1 .0 in
-    let head = sym (take-all 16 first (omega (arith, lengths o))) ∙ w1 .write-head .ensures ∙ ap (λ (s : ℕ). a .uid .now ++ (s ∷ [])) (b .slot-byte .ensures) in
+    let head = sym (take-all 16 first (omega (arith, lengths o 3))) ∙ w1 .write-head .ensures ∙ ap (λ (s : ℕ). a .uid .now ++ (s ∷ [])) (b .slot-byte .ensures) in
     messages-written (a .uid .now) (a .secret .now) (a .key .now) (a .m1 .now) (a .m2 .now) (a .m3 .now) (a .target) (a .authority) (a .counter) (a .flags) _ (answer (o .before))
     first (w2 .write-m2 .last .1 .1 .1 .1 .0) (w3 .write-m3 .last .1 .1 .1 .0) (o .if1 .left) head (w2 .write-m2 .ensures) (w3 .write-m3 .ensures)
 

@@ -1,12 +1,13 @@
 -- `message::write_m5` meets its contract, from those of what it calls.
 -- Assumes nothing.
 use mathlib.Core.List.{List}
-use mathlib.Core.Path.{ap, _∙_}
+use mathlib.Core.Path.{refl, ap, _∙_}
 use Prim.Native.Nat.{ℕ}
 use borrow.Author.Needs.{needs}
 use Rattle.aes.specs.Cipher.{cipher}
+use Rattle.modes.specs.Answer.{cmacLengths}
 use Rattle.modes.specs.Cmac.{cmac}
-use Rattle.message.proofs.Calls.{signs-two}
+use Rattle.message.proofs.Calls.{signs}
 use Rattle.message.specs.Messages.{m5}
 use Rattle.message.proofs.write_m5.Statement.{statement}
 use Rattle.message.proofs.write_m5.Tie as tie
@@ -24,11 +25,11 @@ same-length : tie.Need-same-length
 same-length c = search needs
 
 returns : tie.Need-returns
-unfolding m5
+unfolding m5 cmacLengths
 returns c = let t = c .before .before in
     let d = t .before .before .before in
     let s = d .before .before .before .before in
-    signs-two _ (s .args .text .now) _ (search needs) (s .args .fourth .now) (search needs) (search needs) (t .cmac .ensures .1)
+    signs _ (s .args .text .now) _ (search needs) 256 32 (s .args .fourth .now) refl (search needs) (search needs) (t .cmac .ensures .1)
     ∙ ap (λ (k : List ℕ). cmac (cipher k) 256 (s .args .fourth .now)) (d .derived .ensures)
 
 pub write-m5-spec : {M : Type 1} → statement M
