@@ -10,6 +10,7 @@ use borrow.Author.Tests.{eqb-true, leb-true}
 use lib.Dec.{eqb, leb}
 use lib.ListN.{length, take, drop}
 use lib.Seq.{take-all, paste}
+use Rattle.laws.proofs.Lengths.{each-right}
 use Rattle.laws.proofs.Paste.{pasted-over}
 use Rattle.laws.proofs.Test.{both}
 use Rattle.modes.specs.Answer.{noError, generalError, outcome, threeBlocks, cbcLengths, cmacLengths, compressLengths}
@@ -18,10 +19,7 @@ use Rattle.modes.specs.Cmac.{blockCount}
 -- ---- the tests
 pub three-blocks-facts : (first second third : ℕ) → threeBlocks first second third ≡ true → (first ≡ 16) × (second ≡ 16) × (third ≡ 16)
 unfolding threeBlocks
-three-blocks-facts first second third h =
-    let a = both (eqb first 16) _ h in
-    let b = both (eqb second 16) (eqb third 16) (a .1) in
-    (eqb-true _ _ (a .0), eqb-true _ _ (b .0), eqb-true _ _ (b .1))
+three-blocks-facts first second third h = let each = each-right _ h in (each 0, each 1, each 2)
 
 pub cbc-facts : (key iv input output : ℕ) → cbcLengths key iv input output ≡ true
     → (key ≡ 16) × (iv ≡ 16) × (input % 16 ≡ 0) × (output ≡ input)
@@ -45,10 +43,7 @@ cmac-facts key bits message output h =
 
 pub compress-facts : (start text output : ℕ) → compressLengths start text output ≡ true → (start ≡ 16) × (output ≡ 16)
 unfolding compressLengths
-compress-facts start text output h =
-    let a = both (eqb start 16) _ h in
-    let b = both (eqb (text % 16) 0) (eqb output 16) (a .1) in
-    (eqb-true _ _ (a .0), eqb-true _ _ (b .1))
+compress-facts start text output h = let each = each-right _ h in (each 0, each 2)
 
 -- ---- a buffer of 16 bytes, loaded and stored
 pub loaded : (buffer block : List ℕ) → block ≡ take 16 (drop 0 buffer) → length buffer ≡ 16 → block ≡ buffer

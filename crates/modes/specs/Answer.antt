@@ -1,9 +1,10 @@
 -- What a routine on lent buffers leaves: its answer, and its output. And the lengths that each routine takes.
 -- Assumes nothing.
 use mathlib.Core.Bool.{Bool, _&&_, cond}
-use mathlib.Core.List.{List}
+use mathlib.Core.List.{List, [], _∷_}
 use Prim.Native.Nat.{ℕ, _*_, _%_}
 use lib.Dec.{eqb, leb}
+use Rattle.laws.specs.Lengths.{right}
 use Rattle.modes.specs.Cmac.{blockCount}
 
 pub record Outcome : Type 0 where
@@ -22,7 +23,7 @@ outcome right result output = record { answer = cond right noError generalError;
 
 -- ECB: key, in and out 16 bytes each; KDF: key, constant and out likewise
 unfoldable pub threeBlocks : ℕ → ℕ → ℕ → Bool
-threeBlocks first second third = eqb first 16 && (eqb second 16 && eqb third 16)
+threeBlocks first second third = right ((first, 16) ∷ (second, 16) ∷ (third, 16) ∷ [])
 
 -- CBC: 1 to 4,096 blocks, IV of 16 bytes, output as long as input
 unfoldable pub cbcLengths : ℕ → ℕ → ℕ → ℕ → Bool
@@ -36,4 +37,4 @@ cmacLengths key bits message output =
 
 -- compression: a start of 16 bytes, any number of whole blocks, output 16 bytes
 unfoldable pub compressLengths : ℕ → ℕ → ℕ → Bool
-compressLengths start text output = eqb start 16 && (eqb (text % 16) 0 && eqb output 16)
+compressLengths start text output = right ((start, 16) ∷ (text % 16, 0) ∷ (output, 16) ∷ [])

@@ -68,13 +68,7 @@ fn add(a: [u8; 16], b: [u8; 16]) -> [u8; 16]
 fn three_blocks(first: usize, second: usize, third: usize) -> bool
     ensures { λ r. ⌜ r ≡ threeBlocks first second third ⌝ }
 {
-    if first != 16 {
-        return false;
-    }
-    if second != 16 {
-        return false;
-    }
-    third == 16
+    (first == 16) & (second == 16) & (third == 16)
 }
 
 // ---- ECB, one block
@@ -345,13 +339,7 @@ fn compress_blocks(start: [u8; 16], text: &[u8]) -> [u8; 16]
 fn compress_lengths(start: usize, text: usize, output: usize) -> bool
     ensures { λ r. ⌜ r ≡ compressLengths start text output ⌝ }
 {
-    if start != 16 {
-        return false;
-    }
-    if text % 16 != 0 {
-        return false;
-    }
-    output == 16
+    (start == 16) & (text % 16 == 0) & (output == 16)
 }
 
 // The compression of a text in whole blocks, carried on from a start, which is an earlier output or zero.
