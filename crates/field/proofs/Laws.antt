@@ -8,6 +8,7 @@ use native.Mathlib.Nat.{zero-mul, one-mul, mod-lt}
 use native.Mathlib.Omega.{arith}
 use lib.Dec.{lit<}
 use lib.ListN.{getD}
+use Rattle.laws.specs.All.{all}
 use Rattle.laws.specs.Xor.{_xor_}
 use Rattle.laws.proofs.Tabulate.{getD-tabulate}
 use Rattle.laws.proofs.Test.{agree}
@@ -123,16 +124,16 @@ unfolding inverse power square mul mulBits xtime reduce _xor_
 inverse-zero = refl
 
 inverse-after : (k : ℕ) → k < 255 → mul (suc k) (inverse (suc k)) ≡ 1
-unfolding inverse power square mul mulBits xtime reduce _xor_
-inverse-after = agree (λ k. mul (suc k) (inverse (suc k))) (λ k. 1) 255 tt
+unfolding inverse power square mul mulBits xtime reduce _xor_ all
+inverse-after = agree (λ k. mul (suc k) (inverse (suc k))) (λ k. 1) 255 refl
 
 pub inverse-rule : (a : ℕ) → 0 < a → a < 256 → mul a (inverse a) ≡ 1
 inverse-rule zero h l = absurd (omega arith)
 inverse-rule (suc k) h l = inverse-after k (omega arith)
 
 inverse-twice : (a : ℕ) → a < 256 → inverse (inverse a) ≡ a
-unfolding inverse power square mul mulBits xtime reduce _xor_
-inverse-twice = agree (λ a. inverse (inverse a)) (λ a. a) 256 tt
+unfolding inverse power square mul mulBits xtime reduce _xor_ all
+inverse-twice = agree (λ a. inverse (inverse a)) (λ a. a) 256 refl
 
 power-byte : (n a : ℕ) → power n a < 256
 unfolding power square
@@ -145,12 +146,12 @@ inverse-byte a = power-byte 7 a
 
 -- ---- the affine map
 affine-undo : (b : ℕ) → b < 256 → invAffine (affine b) ≡ b
-unfolding affine invAffine _xor_
-affine-undo = agree (λ b. invAffine (affine b)) (λ b. b) 256 tt
+unfolding affine invAffine _xor_ all
+affine-undo = agree (λ b. invAffine (affine b)) (λ b. b) 256 refl
 
 affine-redo : (b : ℕ) → b < 256 → affine (invAffine b) ≡ b
-unfolding affine invAffine _xor_
-affine-redo = agree (λ b. affine (invAffine b)) (λ b. b) 256 tt
+unfolding affine invAffine _xor_ all
+affine-redo = agree (λ b. affine (invAffine b)) (λ b. b) 256 refl
 
 from-bits-byte : (f : ℕ → ℕ) → ((i : ℕ) → f i < 2) → fromBits f < 256
 from-bits-byte f h = omega (arith, h 0, h 1, h 2, h 3, h 4, h 5, h 6, h 7)

@@ -49,7 +49,7 @@ tabulate-part n l at room =
     tabulate-same n _ _ (λ k h. sym (getD-take n (drop at l) k 0 h ∙ getD-drop at l k 0))
     ∙ tabulate-own n (take n (drop at l)) (length-take-le n (drop at l) (omega (arith, length-drop at l)))
 
-tabulate-last : (n : ℕ) (f : ℕ → ℕ) → tabulate (suc n) f ≡ tabulate n f ++ (f n ∷ [])
+pub tabulate-last : (n : ℕ) (f : ℕ → ℕ) → tabulate (suc n) f ≡ tabulate n f ++ (f n ∷ [])
 unfolding tabulate
 tabulate-last zero f = refl
 tabulate-last (suc n) f = ap (λ (l : List ℕ). f 0 ∷ l) (tabulate-last n (λ k. f (suc k)))

@@ -1,3 +1,4 @@
+pub mod All
 pub mod Lengths
 pub mod Ranges
 pub mod Same

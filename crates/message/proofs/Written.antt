@@ -6,25 +6,21 @@ use mathlib.Core.List.{List}
 use mathlib.Core.Logic.{_⊎_, inl, inr}
 use Prim.Native.Nat.{ℕ, _≤_, _<_}
 use native.Mathlib.Omega.{arith}
-use borrow.Author.Tests.{leb-true, not-false}
+use borrow.Author.Tests.{le-leb, leb-true, not-false}
 use lib.Dec.{leb}
 use lib.ListN.{length}
 use Rattle.laws.specs.Lengths.{right}
 use Rattle.laws.proofs.Test.{where-equal, where-other}
 use Rattle.modes.specs.Answer.{noError, generalError}
+use Rattle.message.proofs.Faults.{no-fault}
 use Rattle.message.specs.Answer.{keyInvalid, written}
 use Rattle.message.specs.Flags.{flagCount}
 use Rattle.message.specs.FirstBlock.{maxCounter}
 use Rattle.message.specs.Messages.{m1, m2, m3, m4, m5}
 use Rattle.message.specs.Slots.{counterKept, allowed}
-use Rattle.message.specs.Writer.{messageLengths, messageAnswer, messages, fullForm, proofLengths, proof, answerForm}
+use Rattle.message.specs.Writer.{messageLengths, messageAnswer, Messages, messages, fullForm, proofLengths, Proof, proof, answerForm}
 
 -- ---- an answer of 0
--- a check that answers no 0 has found no fault, and neither has any after it
-no-fault : (fault : Bool) (number rest : ℕ) → (number ≡ 0 → ⊥) → cond fault number rest ≡ 0 → (fault ≡ false) × (rest ≡ 0)
-no-fault true number rest other e = absurd (other e)
-no-fault false number rest other e = (refl, e)
-
 pub no-faults : (lengths : Bool) (c f t a : ℕ) → messageAnswer lengths c f t a ≡ 0
     → (lengths ≡ true) × (c ≤ maxCounter) × (f < 32) × (allowed t a ≡ true)
 unfolding messageAnswer
@@ -35,6 +31,12 @@ no-faults lengths c f t a e =
     let four = no-fault (not (allowed t a)) 3 0 (λ z. omega arith) (three .1) in
     let flags = leb-true f 31 (not-false _ (three .0)) in
     (not-false _ (one .0), leb-true _ _ (not-false _ (two .0)), omega (arith, flags), not-false _ (four .0))
+
+pub faultless : (lengths : Bool) (c f t a : ℕ) → lengths ≡ true → c ≤ maxCounter → f < 32 → allowed t a ≡ true → 0 ≡ messageAnswer lengths c f t a
+unfolding messageAnswer
+faultless lengths c f t a right counter flags pair =
+    let few : f ≤ 31 = omega arith in
+    simp (right, le-leb c maxCounter counter, le-leb f 31 few, pair)
 
 -- an answer is 0, 3 or 12
 pub answers : (lengths : Bool) (c f t a : ℕ)
@@ -111,3 +113,24 @@ module _ (uid key b4 b5 : List ℕ) (t a c answer : ℕ)
   proof-written a4 a5 h e4 e5 =
       let done = sym e ∙ h in
       left-proof (sym done) (e4 ∙ is-written _ _ _ done) (e5 ∙ ap (m5 key) e4 ∙ is-written _ _ _ done)
+
+-- ---- both succeed where the lengths, the numbers and the pair are right
+module _ (uid key : List ℕ) (t a c : ℕ) (hu : length uid ≡ 15) (hk : length key ≡ 16) (counter : c ≤ maxCounter) (pair : allowed t a ≡ true) where
+  pub wrote-messages : (secret b1 b2 b3 a1 a2 a3 : List ℕ) (f r : ℕ) → length secret ≡ 16 → length b1 ≡ 16 → length b2 ≡ 32 → length b3 ≡ 16 → f < 32
+      → messages r a1 a2 a3 ≡ fullForm uid t a secret c f key b1 b2 b3
+      → (a1 ≡ m1 uid t a) × (a2 ≡ m2 flagCount secret c f key) × (a3 ≡ m3 secret (m1 uid t a) (m2 flagCount secret c f key))
+  unfolding right
+  wrote-messages secret b1 b2 b3 a1 a2 a3 f r hs h1 h2 h3 flags e =
+      let lengths : right (messageLengths (length uid) (length secret) (length key) (length b1) (length b2) (length b3)) ≡ true = rw (hu, hs, hk, h1, h2, h3) in
+      let zero = faultless _ c f t a lengths counter flags pair in
+      let done = e ∙ sym (messages-written uid secret key b1 b2 b3 t a c f 0 zero _ _ _ refl refl refl refl) in
+      (ap (λ (x : Messages). x .m1) done, ap (λ (x : Messages). x .m2) done, ap (λ (x : Messages). x .m3) done)
+
+  pub wrote-proof : (b4 b5 a4 a5 : List ℕ) (r : ℕ) → length b4 ≡ 32 → length b5 ≡ 16 → proof r a4 a5 ≡ answerForm uid t a c key b4 b5
+      → (a4 ≡ m4 uid t a (counterKept t c) key) × (a5 ≡ m5 key (m4 uid t a (counterKept t c) key))
+  unfolding right
+  wrote-proof b4 b5 a4 a5 r h4 h5 e =
+      let lengths : right (proofLengths (length uid) (length key) (length b4) (length b5)) ≡ true = rw (hu, hk, h4, h5) in
+      let zero = faultless _ c 0 t a lengths counter (omega arith) pair in
+      let done = e ∙ sym (proof-written uid key b4 b5 t a c 0 zero _ _ refl refl refl) in
+      (ap (λ (x : Proof). x .m4) done, ap (λ (x : Proof). x .m5) done)

@@ -185,6 +185,7 @@ fn first_block(counter: u32, flags: u8) -> [u8; 16]
 
 fn counter_of(block: [u8; 16]) -> u32
     ensures { λ r. ⌜ r ≡ counterOf block ⌝ }
+    ensures { λ r. ⌜ r ≤ maxCounter ⌝ }
 {
     (block[0] as u32) << 20
         | (block[1] as u32) << 12
@@ -453,6 +454,7 @@ pub struct Opened {
 
 fn not_opened() -> Opened
     ensures { λ r. ⌜ r ≡ unopened ⌝ }
+    ensures { λ r. ⌜ r .counter ≤ maxCounter ⌝ }
 {
     Opened {
         genuine: false,
@@ -482,6 +484,7 @@ fn half(text: [u8; 32], at: usize) -> [u8; 16]
 
 fn read_clear(clear: [u8; 32]) -> Opened
     ensures { λ r. ⌜ r ≡ openedText flagCount clear ⌝ }
+    ensures { λ r. ⌜ r .counter ≤ maxCounter ⌝ }
 {
     let first = half(clear, 0);
     Opened {
@@ -496,6 +499,7 @@ fn read_clear(clear: [u8; 32]) -> Opened
 // Opens M1 to M3 under the authority's key. M2 is deciphered only where M3 is right.
 pub fn open(secret: &[u8], m1: &[u8], m2: &[u8], m3: &[u8]) -> Opened
     ensures { λ r. ⌜ r ≡ opened flagCount (now (secret .entry)) (now (m1 .entry)) (now (m2 .entry)) (now (m3 .entry)) ⌝ }
+    ensures { λ r. ⌜ r .counter ≤ maxCounter ⌝ }
 {
     if !open_lengths(secret.len(), m1.len(), m2.len(), m3.len()) {
         return not_opened();

@@ -65,7 +65,7 @@ fn add(a: [u8; 16], b: [u8; 16]) -> [u8; 16]
 }
 
 // Three buffers of a block each: ECB and the key derivation take no others.
-fn three_blocks(first: usize, second: usize, third: usize) -> bool
+pub fn three_blocks(first: usize, second: usize, third: usize) -> bool
     ensures { λ r. ⌜ r ≡ threeBlocks first second third ⌝ }
 {
     (first == 16) & (second == 16) & (third == 16)
@@ -99,7 +99,7 @@ pub fn ecb_decrypt(key: &[u8], input: &[u8], output: &mut [u8]) -> u8
 
 // ---- CBC
 
-fn cbc_lengths(key: usize, iv: usize, input: usize, output: usize) -> bool
+pub fn cbc_lengths(key: usize, iv: usize, input: usize, output: usize) -> bool
     ensures { λ r. ⌜ r ≡ cbcLengths key iv input output ⌝ }
 {
     if key != 16 {
@@ -275,7 +275,7 @@ fn block_count(bits: u64) -> usize
     if n == 0 { 1 } else { n }
 }
 
-fn cmac_lengths(key: usize, bits: u64, message: usize, output: usize) -> bool
+pub fn cmac_lengths(key: usize, bits: u64, message: usize, output: usize) -> bool
     ensures { λ r. ⌜ r ≡ cmacLengths key bits message output ⌝ }
 {
     if key != 16 {

@@ -40,8 +40,8 @@ not-opened-requires c κs = search needs
 returns : tie.Need-returns
 returns c = let o = c .before .before in
     let a = o .before .before .before .before .before .args in
-    c .not-opened .ensures
-    ∙ closed-by-lengths flagCount (a .secret .now) (a .m1 .now) (a .m2 .now) (a .m3 .now) (sym (o .open-lengths .ensures) ∙ not-true _ (c .before .if1 .taken))
+    let closed = closed-by-lengths flagCount (a .secret .now) (a .m1 .now) (a .m2 .now) (a .m3 .now) (sym (o .open-lengths .ensures) ∙ not-true _ (c .before .if1 .taken)) in
+    (c .not-opened .ensures .0 ∙ closed, c .not-opened .ensures .1)
 
 slice-aggregate-write-m3 : tie.Need-slice-aggregate-write-m3
 slice-aggregate-write-m3 c = search needs
@@ -62,8 +62,8 @@ returns-2 : tie.Need-returns-2
 returns-2 c = let s = c .before .before in
     let l = s .before .before .before .before .before in
     let a = l .before .before .before .before .before .before .args in
-    c .not-opened2 .ensures
-    ∙ closed-by-m3 flagCount (a .secret .now) (a .m1 .now) (a .m2 .now) (a .m3 .now) (passed l) (sym (compared s) ∙ not-true _ (c .before .if2 .taken))
+    let closed = closed-by-m3 flagCount (a .secret .now) (a .m1 .now) (a .m2 .now) (a .m3 .now) (passed l) (sym (compared s) ∙ not-true _ (c .before .if2 .taken)) in
+    (c .not-opened2 .ensures .0 ∙ closed, c .not-opened2 .ensures .1)
 
 derived-requires : tie.Need-derived-requires
 derived-requires c κs = each-right _ (passed (c .before .before .before .before .before .before)) 0
@@ -91,9 +91,9 @@ returns-3 c = let m = c .before .before in
     let l = s .before .before .before .before .before in
     let a = l .before .before .before .before .before .before .args in
     let clear = decrypts (d .derived .result) (replicate 32 0) _ (search needs) zeroBlock (a .m2 .now) refl (each-right _ (passed l) 2) refl (m .cbc-decrypt .ensures .1) in
-    c .read-clear .ensures
-    ∙ ap (openedText flagCount) (clear ∙ ap (λ (k : List ℕ). cbcDecrypt (invCipher k) zeroBlock (a .m2 .now)) (d .derived .ensures))
-    ∙ opened-by-m3 flagCount (a .secret .now) (a .m1 .now) (a .m2 .now) (a .m3 .now) (passed l) (sym (compared s) ∙ not-false _ (d .before .if2 .left))
+    let text = clear ∙ ap (λ (k : List ℕ). cbcDecrypt (invCipher k) zeroBlock (a .m2 .now)) (d .derived .ensures) in
+    let opens = opened-by-m3 flagCount (a .secret .now) (a .m1 .now) (a .m2 .now) (a .m3 .now) (passed l) (sym (compared s) ∙ not-false _ (d .before .if2 .left)) in
+    (c .read-clear .ensures .0 ∙ ap (openedText flagCount) text ∙ opens, c .read-clear .ensures .1)
 
 pub open-spec : {M : Type 1} → statement M
 open-spec =

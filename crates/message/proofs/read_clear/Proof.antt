@@ -35,7 +35,7 @@ returns c = let z = c .before in
     let clear : List ℕ = h .before .args .clear in
     let all : length clear ≡ 32 = search needs in
     let key = c .half2 .ensures ∙ take-all 16 (drop 16 clear) (omega (arith, length-drop 16 clear, all)) in
-    rw (key, z .filler-is-zero .ensures, f .flags-of .ensures, n .counter-of .ensures, h .half .ensures) refl
+    (rw (key, z .filler-is-zero .ensures, f .flags-of .ensures, n .counter-of .ensures .0, h .half .ensures) refl, n .counter-of .ensures .1)
 
 pub read-clear-spec : {M : Type 1} → statement M
 read-clear-spec =

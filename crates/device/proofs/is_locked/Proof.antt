@@ -1,0 +1,19 @@
+-- `device::is_locked` meets its contract.
+-- Assumes nothing.
+use Rattle.device.specs.Rules.{locked}
+use borrow.Author.Needs.{needs}
+use Rattle.device.proofs.is_locked.Statement.{statement}
+use Rattle.device.proofs.is_locked.Tie as tie
+
+flags-at-requires : tie.Need-flags-at-requires
+flags-at-requires c κs = search needs
+
+has-flag-requires : tie.Need-has-flag-requires
+has-flag-requires c κs = search needs
+
+returns : tie.Need-returns
+unfolding locked
+returns c = rw (c .has-flag .ensures, c .before .before .flags-at .ensures)
+
+pub is-locked-spec : {M : Type 1} → statement M
+is-locked-spec = tie.close (tie.spec flags-at-requires has-flag-requires returns)

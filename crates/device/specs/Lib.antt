@@ -1,0 +1,5 @@
+pub mod Answers
+pub mod Made
+pub mod Outcome
+pub mod Record
+pub mod Rules

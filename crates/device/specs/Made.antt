@@ -1,0 +1,90 @@
+-- When a record counts as made; the blank device, and a new one.
+-- Assumes nothing.
+use mathlib.Core.Bool.{Bool, not, _&&_, _||_}
+use mathlib.Core.List.{List}
+use Prim.Native.Nat.{ℕ}
+use lib.Dec.{eqb, leb}
+use lib.ListN.{replicate}
+use Rattle.laws.specs.All.{all}
+use Rattle.laws.specs.Same.{same}
+use Rattle.modes.specs.Blocks.{zeroBlock}
+use Rattle.message.specs.FirstBlock.{maxCounter}
+use Rattle.message.specs.Slots.{counterKept}
+use Rattle.device.specs.Record.{secretKey, ramKey, off, on, isOn, isEmpty, slotAt, putSlot}
+use Rattle.device.specs.Rules.{kept}
+use Rattle.device.specs.declared.Device.{Device}
+use Rattle.device.specs.declared.Slot.{Slot}
+
+-- the mark is on or off
+abbrev pub isMark : ℕ → Bool
+isMark mark = leb mark on
+
+abbrev pub zeroUid : List ℕ
+zeroUid = replicate 15 0
+
+-- all zero besides its empty mark
+abbrev pub isZero : Slot → Bool
+isZero slot = same (slot .key) zeroBlock && eqb (slot .counter) 0 && eqb (slot .flags) 0
+
+-- the counter is at most 268,435,455, or 0 where the slot has none; it keeps no flag that it hasn't; an empty slot is all zero
+unfoldable pub slotFine : ℕ → Slot → Bool
+slotFine number slot =
+    isMark (slot .empty)
+    && leb (slot .counter) (counterKept number maxCounter)
+    && eqb (kept number (slot .flags)) (slot .flags)
+    && (not (isOn (slot .empty)) || isZero slot)
+
+unfoldable pub slotsFine : Device → Bool
+slotsFine d = all 15 (λ number. slotFine number (slotAt d number))
+
+-- its made mark is on, its UID isn't zero, slot 0 isn't empty, each slot is as it may be (an empty slot 14 is not plain), random
+-- state and key are zero while not initialised; and marks are on or off
+unfoldable pub made : Device → Bool
+made d =
+    isOn (d .made)
+    && not (same (d .uid) zeroUid)
+    && not (isEmpty d secretKey)
+    && slotsFine d
+    && (not (isEmpty d ramKey) || eqb (d .plain) off)
+    && (isOn (d .rng) || (same (d .state) zeroBlock && same (d .rngkey) zeroBlock))
+    && isMark (d .rng)
+    && isMark (d .plain)
+    && isMark (d .debugger)
+
+-- all zero, and not made
+abbrev pub blank : Device
+blank =
+    record {
+      keys = replicate 240 0;
+      counters = replicate 15 0;
+      flags = replicate 15 0;
+      empty = replicate 15 off;
+      uid = zeroUid;
+      seed = zeroBlock;
+      state = zeroBlock;
+      rngkey = zeroBlock;
+      rng = off;
+      plain = off;
+      debugger = off;
+      made = off;
+    }
+
+-- the key store is 240 zero bytes, then SECRET_KEY is put in; all other slots are empty with counter and flags 0, slot 14 is not
+-- plain, the debugger mark is off, random state and key are zero and not initialised
+abbrev pub fresh : List ℕ → List ℕ → List ℕ → Device
+fresh uid secret seed =
+    putSlot secretKey (record { key = secret; counter = 0; flags = 0; empty = off })
+    (record {
+      keys = replicate 240 0;
+      counters = replicate 15 0;
+      flags = replicate 15 0;
+      empty = replicate 15 on;
+      uid = uid;
+      seed = seed;
+      state = zeroBlock;
+      rngkey = zeroBlock;
+      rng = off;
+      plain = off;
+      debugger = off;
+      made = on;
+    })

@@ -1,0 +1,28 @@
+-- `load::loaded` meets its contract.
+-- Assumes nothing.
+use Rattle.load.specs.Rules.{loaded}
+use borrow.Author.Needs.{needs}
+use mathlib.Core.Path.{_∙_}
+use Rattle.load.proofs.loaded.Statement.{statement}
+use Rattle.load.proofs.loaded.Tie as tie
+
+plain-after-requires : tie.Need-plain-after-requires
+plain-after-requires c κs = search needs
+
+counter-kept-requires : tie.Need-counter-kept-requires
+counter-kept-requires c κs = search needs
+
+kept-requires : tie.Need-kept-requires
+kept-requires c κs = search needs
+
+put-slot-requires : tie.Need-put-slot-requires
+put-slot-requires c κs = search needs
+
+returns : tie.Need-returns
+unfolding loaded
+returns c = c .put-slot .ensures ∙ rw (c .before .kept .ensures, c .before .before .counter-kept .ensures, c .before .before .before .before .plain-after .ensures)
+
+pub loaded-spec : {M : Type 1} → statement M
+loaded-spec =
+    tie.close
+    (tie.spec plain-after-requires counter-kept-requires kept-requires put-slot-requires returns)

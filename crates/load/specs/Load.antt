@@ -1,0 +1,72 @@
+-- LOAD_KEY, over the number n of flags: the order of its checks, and what it leaves for any record and lent buffers of any lengths.
+-- Assumes nothing.
+use mathlib.Core.Bool.{Bool, not, _&&_}
+use mathlib.Core.List.{List, [], _∷_, _++_}
+use Prim.Native.Nat.{ℕ}
+use lib.Dec.{eqb}
+use lib.ListN.{length}
+use Rattle.laws.specs.Lengths.{right}
+use Rattle.modes.specs.Answer.{generalError}
+use Rattle.message.specs.Answer.{keyInvalid, firstFault}
+use Rattle.message.specs.Building.{uidOf, targetOf, authorityOf}
+use Rattle.message.specs.Flags.{write}
+use Rattle.message.specs.Messages.{m4, m5}
+use Rattle.message.specs.Opening.{opened}
+use Rattle.message.specs.Slots.{allowed, counterKept}
+use Rattle.message.specs.declared.Opened.{Opened}
+use Rattle.device.specs.Answers.{keyEmpty, keyNotAvailable, keyWriteProtected, keyUpdateError}
+use Rattle.device.specs.Made.{made}
+use Rattle.device.specs.Outcome.{Outcome, done, decided}
+use Rattle.device.specs.Record.{isEmpty, flagsAt}
+use Rattle.device.specs.Rules.{hasFlag, locked}
+use Rattle.device.specs.declared.Device.{Device}
+use Rattle.load.specs.Rules.{authorityKey, isForUs, counterRises, loaded}
+
+-- M1 16 bytes, M2 32, M3 16, M4 32, M5 16
+abbrev pub fiveLengths : ℕ → ℕ → ℕ → ℕ → ℕ → List (ℕ × ℕ)
+fiveLengths m1 m2 m3 m4 m5 = (m1, 16) ∷ (m2, 32) ∷ (m3, 16) ∷ (m4, 32) ∷ (m5, 16) ∷ []
+
+-- not made; lengths of all five buffers; pair; target WRITE; authority empty and not the target itself; authority locked
+abbrev pub guards : Device → Bool → ℕ → ℕ → List (Bool × ℕ)
+guards d lengths target authority =
+    (not (made d), generalError)
+    ∷ (not lengths, generalError)
+    ∷ (not (allowed target authority), keyInvalid)
+    ∷ (hasFlag (flagsAt d target) write, keyWriteProtected)
+    ∷ (isEmpty d authority && not (eqb authority target), keyEmpty)
+    ∷ (locked d authority, keyNotAvailable)
+    ∷ []
+
+-- then M3; identity; the filler bits; counter
+abbrev pub messageChecks : Device → ℕ → List ℕ → Opened → List (Bool × ℕ)
+messageChecks d target uid new =
+    (not (new .genuine), keyUpdateError)
+    ∷ (not (isForUs d target uid), keyUpdateError)
+    ∷ (not (new .zeros), keyUpdateError)
+    ∷ (not (counterRises d target (new .counter)), keyUpdateError)
+    ∷ []
+
+unfoldable pub guardAnswer : Device → Bool → ℕ → ℕ → ℕ
+guardAnswer d lengths target authority = firstFault (guards d lengths target authority)
+
+unfoldable pub messageAnswer : Device → ℕ → List ℕ → Opened → ℕ
+messageAnswer d target uid new = firstFault (messageChecks d target uid new)
+
+-- all ten
+unfoldable pub loadAnswer : Device → Bool → List ℕ → Opened → ℕ
+loadAnswer d lengths m1 new = firstFault (guards d lengths (targetOf m1) (authorityOf m1) ++ messageChecks d (targetOf m1) (uidOf m1) new)
+
+-- the message as it opens under the key of the authority that M1 names
+abbrev pub openedBy : ℕ → Device → List ℕ → List ℕ → List ℕ → Opened
+openedBy n d m1 m2 m3 = opened n (authorityKey d (authorityOf m1)) m1 m2 m3
+
+-- the proof: the device's own UID, the same slots, the counter as it is stored
+abbrev pub proof4 : Device → List ℕ → Opened → List ℕ
+proof4 d m1 new = m4 (d .uid) (targetOf m1) (authorityOf m1) (counterKept (targetOf m1) (new .counter)) (new .key)
+
+unfoldable pub loadKey : ℕ → Device → List ℕ → List ℕ → List ℕ → List ℕ → List ℕ → Outcome
+loadKey n d m1 m2 m3 before4 before5 =
+    let lengths = right (fiveLengths (length m1) (length m2) (length m3) (length before4) (length before5)) in
+    let new = openedBy n d m1 m2 m3 in
+    decided (loadAnswer d lengths m1 new) d (before4 ∷ before5 ∷ [])
+    (done (loaded d (targetOf m1) (new .counter) (new .flags) (new .key)) 0 (proof4 d m1 new ∷ m5 (new .key) (proof4 d m1 new) ∷ []))
