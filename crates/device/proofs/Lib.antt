@@ -1,2 +1,4 @@
+pub mod Made
 pub mod Outcome
 pub mod Record
+pub mod Slots

@@ -1,10 +1,11 @@
 -- The two outcomes of a command, from the answer that it found: refused, and done.
 -- Assumes nothing.
-use mathlib.Core.Path.{_≡_, sym, ap, _∙_}
-use mathlib.Core.Bool.{Bool, cond}
+use mathlib.Core.Path.{_≡_, refl, sym, ap, _∙_}
+use mathlib.Core.Bool.{Bool, true, false, cond}
 use mathlib.Core.List.{List}
 use Prim.Native.Nat.{ℕ}
-use borrow.Author.Tests.{eq-eqb, ne-eqb}
+use borrow.Author.Tests.{eq-eqb, ne-eqb, eqb-true}
+use lib.Dec.{eqb}
 use Rattle.device.specs.Outcome.{Outcome, refused, decided}
 use Rattle.device.specs.declared.Device.{Device}
 
@@ -17,3 +18,22 @@ module _ (found answer : ℕ) (d : Device) (before : List (List ℕ)) (success :
   pub is-done : found ≡ 0 → success ≡ decided answer d before success
   unfolding decided
   is-done h = sym (ap (λ (b : Bool). cond b success (refused answer d before)) (eq-eqb answer 0 (sym e ∙ h)))
+
+-- what holds of the device before, and of the one after where the answer is 0, holds of the one after
+pub either-way : (P : Device → Type 0) (answer : ℕ) (d : Device) (before : List (List ℕ)) (success : Outcome) → P d → (answer ≡ 0 → P (success .device))
+    → P (decided answer d before success .device)
+unfolding decided
+either-way P answer d before success stays changes = tests (eqb answer 0) refl
+  where
+    tests : (b : Bool) → eqb answer 0 ≡ b → P (cond b success (refused answer d before) .device)
+    tests true e = changes (eqb-true answer 0 e)
+    tests false e = stays
+
+-- the answer is the one that was found, and where it is 0 all is as it is done
+pub same-answer : (answer : ℕ) (d : Device) (before : List (List ℕ)) (success : Outcome) → success .answer ≡ 0 → decided answer d before success .answer ≡ answer
+unfolding decided
+same-answer answer d before success done = tests (eqb answer 0) refl
+  where
+    tests : (b : Bool) → eqb answer 0 ≡ b → cond b success (refused answer d before) .answer ≡ answer
+    tests true e = done ∙ sym (eqb-true answer 0 e)
+    tests false e = refl

@@ -1,6 +1,7 @@
 -- When a record counts as made; the blank device, and a new one.
 -- Assumes nothing.
-use mathlib.Core.Bool.{Bool, not, _&&_, _||_}
+use mathlib.Core.Path.{_≡_}
+use mathlib.Core.Bool.{Bool, true, not, _&&_, _||_}
 use mathlib.Core.List.{List}
 use Prim.Native.Nat.{ℕ}
 use lib.Dec.{eqb, leb}
@@ -10,7 +11,7 @@ use Rattle.laws.specs.Same.{same}
 use Rattle.modes.specs.Blocks.{zeroBlock}
 use Rattle.message.specs.FirstBlock.{maxCounter}
 use Rattle.message.specs.Slots.{counterKept}
-use Rattle.device.specs.Record.{secretKey, ramKey, off, on, isOn, isEmpty, slotAt, putSlot}
+use Rattle.device.specs.Record.{secretKey, ramKey, off, on, isOn, isEmpty, slotAt, putSlot, Shaped}
 use Rattle.device.specs.Rules.{kept}
 use Rattle.device.specs.declared.Device.{Device}
 use Rattle.device.specs.declared.Slot.{Slot}
@@ -71,10 +72,9 @@ blank =
 
 -- the key store is 240 zero bytes, then SECRET_KEY is put in; all other slots are empty with counter and flags 0, slot 14 is not
 -- plain, the debugger mark is off, random state and key are zero and not initialised
-abbrev pub fresh : List ℕ → List ℕ → List ℕ → Device
-fresh uid secret seed =
-    putSlot secretKey (record { key = secret; counter = 0; flags = 0; empty = off })
-    (record {
+abbrev pub unkeyed : List ℕ → List ℕ → Device
+unkeyed uid seed =
+    record {
       keys = replicate 240 0;
       counters = replicate 15 0;
       flags = replicate 15 0;
@@ -87,4 +87,11 @@ fresh uid secret seed =
       plain = off;
       debugger = off;
       made = on;
-    })
+    }
+
+abbrev pub fresh : List ℕ → List ℕ → List ℕ → Device
+fresh uid secret seed = putSlot secretKey (record { key = secret; counter = 0; flags = 0; empty = off }) (unkeyed uid seed)
+
+-- what theorems ask of a device: it has the shape that its type gives it, and is made
+abbrev pub Sound : Device → Type 0
+Sound d = Shaped d × (made d ≡ true)

@@ -1,13 +1,14 @@
 -- The device record: what it holds slot by slot, and the same record with a part of it set anew.
 -- Assumes nothing.
+use mathlib.Core.Path.{_≡_}
 use mathlib.Core.Bool.{Bool, cond}
 use mathlib.Core.List.{List}
 use Prim.Native.Nat.{ℕ, _+_, _*_}
 use lib.Dec.{eqb, leb}
-use lib.ListN.{getD, set}
+use lib.ListN.{length, getD, set}
 use lib.Seq.{paste}
 use Rattle.laws.specs.Tabulate.{tabulate}
-use Rattle.aes.specs.State.{byte, state}
+use Rattle.aes.specs.State.{byte, state, Bytes}
 use Rattle.device.specs.declared.Device.{Device}
 use Rattle.device.specs.declared.Slot.{Slot}
 
@@ -57,11 +58,10 @@ isEmpty d slot = isOn (emptyAt d slot)
 abbrev pub slotAt : Device → ℕ → Slot
 slotAt d slot = record { key = keyAt d slot; counter = counterAt d slot; flags = flagsAt d slot; empty = emptyAt d slot }
 
--- ---- parts set anew: one slot (a number that is no slot changes nothing), the plain mark, the debugger mark, random numbers
-unfoldable pub putSlot : ℕ → Slot → Device → Device
-putSlot slot new d =
-    cond (leb slot ramKey)
-    (record {
+-- ---- parts set anew: one slot, the plain mark, the debugger mark, random numbers
+abbrev pub withSlot : ℕ → Slot → Device → Device
+withSlot slot new d =
+    record {
       keys = paste (d .keys) (16 * slot) (new .key) 16;
       counters = set (d .counters) slot (new .counter);
       flags = set (d .flags) slot (new .flags);
@@ -74,8 +74,11 @@ putSlot slot new d =
       plain = d .plain;
       debugger = d .debugger;
       made = d .made;
-    })
-    d
+    }
+
+-- a number that is no slot changes nothing
+unfoldable pub putSlot : ℕ → Slot → Device → Device
+putSlot slot new d = cond (leb slot ramKey) (withSlot slot new d) d
 
 abbrev pub setPlain : ℕ → Device → Device
 setPlain mark d =
@@ -128,3 +131,11 @@ setRandom seed state key mark d =
       debugger = d .debugger;
       made = d .made;
     }
+
+-- ---- what the record's type says of it, for theorems: how many numbers there are, and that keys are bytes
+pub record Shaped (d : Device) : Type 0 where
+  pub keys : length (d .keys) ≡ 240
+  pub key-bytes : Bytes (d .keys)
+  pub counters : length (d .counters) ≡ 15
+  pub flags : length (d .flags) ≡ 15
+  pub empty : length (d .empty) ≡ 15

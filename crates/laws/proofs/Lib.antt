@@ -1,3 +1,4 @@
+pub mod And
 pub mod Each
 pub mod Lengths
 pub mod Paste

@@ -1,2 +1,3 @@
 pub mod Exporting
 pub mod Loading
+pub mod Sound

@@ -1,0 +1,156 @@
+-- Every command keeps a made device made, and making makes one.
+-- Assumes nothing.
+use mathlib.Core.Path.{_≡_, refl, sym, ap, _∙_, subst}
+use mathlib.Core.Bool.{Bool, true, not, _&&_, _||_}
+use mathlib.Core.List.{List, [], _∷_}
+use Prim.Native.Nat.{ℕ, _≤_}
+use native.Mathlib.Omega.{arith}
+use borrow.Author.Tests.{eqb-true, not-false}
+use lib.Dec.{eqb}
+use lib.ListN.{length}
+use Rattle.laws.specs.Lengths.{right}
+use Rattle.laws.specs.Ranges.{rowOf}
+use Rattle.laws.specs.Same.{same}
+use Rattle.laws.proofs.Lengths.{each-right}
+use Rattle.aes.specs.State.{Bytes, Block}
+use Rattle.aes.proofs.Bytes.{zero-block}
+use Rattle.modes.specs.Blocks.{zeroBlock}
+use Rattle.message.specs.Slots.{flagsKept, counterKept}
+use Rattle.message.proofs.Faults.{no-fault}
+use Rattle.device.specs.Answers.{rngSeed}
+use Rattle.device.specs.Made.{isMark, zeroUid, slotFine, made, blank, fresh, Sound}
+use Rattle.device.specs.Outcome.{Outcome, done}
+use Rattle.device.specs.Record.{secretKey, ramKey, off, on, isOn, putSlot, setPlain, setDebugger, setRandom, Shaped}
+use Rattle.device.specs.Rules.{kept}
+use Rattle.device.specs.declared.Device.{Device}
+use Rattle.device.specs.declared.Slot.{Slot}
+use Rattle.device.proofs.Made.{Made, facts, is-made, debugger-set, random-set, made-ready, slot-set, empty-there, empty-elsewhere, fresh-sound}
+use Rattle.device.proofs.Outcome.{is-done, either-way, same-answer}
+use Rattle.device.proofs.Slots.{put-fits, shape-kept}
+use Rattle.commands.specs.Checks.{otherAnswer}
+use Rattle.commands.specs.Commands.{makeAnswer, make, reset, attachDebugger, encEcb, decEcb, encCbc, decCbc, generateMac, verifyMac, loadPlainKey, initRng, extendSeed, rnd, getStatus, getId}
+use Rattle.commands.proofs.Passed.{other-lengths}
+
+-- ---- making
+pub make-sound : (uid secret seed : List ℕ) → Bytes secret → make uid secret seed .answer ≡ 0 → Sound (make uid secret seed .device)
+unfolding make makeAnswer
+make-sound uid secret seed small h =
+    let zero = sym (same-answer (makeAnswer uid (length secret) (length seed)) blank [] (done (fresh uid secret seed) 0 []) refl) ∙ h in
+    let one = no-fault (not (right ((length uid, 15) ∷ (length secret, 16) ∷ (length seed, 16) ∷ []))) 12 _ (λ z. omega arith) zero in
+    let two = no-fault (same uid zeroUid) 12 0 (λ z. omega arith) (one .1) in
+    let long = each-right _ (not-false _ (one .0)) 1 in
+    subst (λ (o : Outcome). Sound (o .device)) (is-done _ _ blank [] (done (fresh uid secret seed) 0 []) refl zero)
+    (fresh-sound uid seed secret (record { long = long; small = small }) (two .0))
+
+-- EXTEND_SEED and RND succeed where random numbers are initialised
+is-initialised : (d : Device) (lengths : Bool) → otherAnswer d lengths ((not (isOn (d .rng)), rngSeed) ∷ []) ≡ 0 → isOn (d .rng) ≡ true
+unfolding otherAnswer
+is-initialised d lengths e =
+    let two = no-fault (not lengths) 12 _ (λ z. omega arith) (no-fault (not (made d)) 12 _ (λ z. omega arith) e .1) in
+    not-false _ (no-fault (not (isOn (d .rng))) 8 0 (λ z. omega arith) (two .1) .0)
+
+module _ (d : Device) (sound : Sound d) where
+  fact : Made d
+  fact = facts d (sound .1)
+
+  -- ---- commands that hand the device back as it was
+  pub enc-ecb-sound : (slot : ℕ) (input output : List ℕ) → Sound (encEcb d slot input output .device)
+  unfolding encEcb
+  enc-ecb-sound slot input output = either-way Sound _ d _ _ sound (λ done. sound)
+
+  pub dec-ecb-sound : (slot : ℕ) (input output : List ℕ) → Sound (decEcb d slot input output .device)
+  unfolding decEcb
+  dec-ecb-sound slot input output = either-way Sound _ d _ _ sound (λ done. sound)
+
+  pub enc-cbc-sound : (slot : ℕ) (iv input output : List ℕ) → Sound (encCbc d slot iv input output .device)
+  unfolding encCbc
+  enc-cbc-sound slot iv input output = either-way Sound _ d _ _ sound (λ done. sound)
+
+  pub dec-cbc-sound : (slot : ℕ) (iv input output : List ℕ) → Sound (decCbc d slot iv input output .device)
+  unfolding decCbc
+  dec-cbc-sound slot iv input output = either-way Sound _ d _ _ sound (λ done. sound)
+
+  pub generate-mac-sound : (slot bits : ℕ) (message mac : List ℕ) → Sound (generateMac d slot bits message mac .device)
+  unfolding generateMac
+  generate-mac-sound slot bits message mac = either-way Sound _ d _ _ sound (λ done. sound)
+
+  pub verify-mac-sound : (slot bits : ℕ) (message mac : List ℕ) (macbits : ℕ) → Sound (verifyMac d slot bits message mac macbits .device)
+  unfolding verifyMac
+  verify-mac-sound slot bits message mac macbits = either-way Sound _ d _ _ sound (λ done. sound)
+
+  pub get-status-sound : Sound (getStatus d .device)
+  unfolding getStatus
+  get-status-sound = either-way Sound _ d _ _ sound (λ done. sound)
+
+  pub get-id-sound : (challenge output : List ℕ) → Sound (getId d challenge output .device)
+  unfolding getId
+  get-id-sound challenge output = either-way Sound _ d _ _ sound (λ done. sound)
+
+  -- ---- marks and random numbers: the slots stay
+  slots-stay : (e : Device) → e .keys ≡ d .keys → e .counters ≡ d .counters → e .flags ≡ d .flags → e .empty ≡ d .empty → Shaped e
+  slots-stay e k c f m =
+      let s = sound .0 in
+      record {
+        keys = ap length k ∙ s .keys;
+        key-bytes = subst Bytes (sym k) (s .key-bytes);
+        counters = ap length c ∙ s .counters;
+        flags = ap length f ∙ s .flags;
+        empty = ap length m ∙ s .empty;
+      }
+
+  pub attach-debugger-sound : Sound (attachDebugger d .device)
+  unfolding attachDebugger
+  attach-debugger-sound =
+      either-way Sound _ d _ _ sound (λ done. (slots-stay (setDebugger on d) refl refl refl refl, is-made _ (debugger-set d fact on refl)))
+
+  random-sound : (seed state key : List ℕ) (mark : ℕ) → isMark mark ≡ true → (isOn mark || (same state zeroBlock && same key zeroBlock)) ≡ true
+      → Sound (setRandom seed state key mark d)
+  random-sound seed state key mark h rest =
+      (slots-stay (setRandom seed state key mark d) refl refl refl refl, is-made _ (random-set d fact seed state key mark h rest))
+
+  pub init-rng-sound : Sound (initRng d .device)
+  unfolding initRng
+  init-rng-sound = either-way Sound _ d _ _ sound (λ done. random-sound _ _ _ on refl refl)
+
+  -- past their checks random numbers are initialised, and stay so
+  still-on : (seed state : List ℕ) → isOn (d .rng) ≡ true → Sound (setRandom seed state (d .rngkey) (d .rng) d)
+  still-on seed state h = random-sound seed state (d .rngkey) (d .rng) (fact .rng-mark) (ap (λ (b : Bool). b || (same state zeroBlock && same (d .rngkey) zeroBlock)) h)
+
+  pub extend-seed-sound : (entropy : List ℕ) → Sound (extendSeed d entropy .device)
+  unfolding extendSeed
+  extend-seed-sound entropy = either-way Sound _ d _ _ sound (λ done. still-on _ _ (is-initialised d _ done))
+
+  pub rnd-sound : (output : List ℕ) → Sound (rnd d output .device)
+  unfolding rnd
+  rnd-sound output = either-way Sound _ d _ _ sound (λ done. still-on _ _ (is-initialised d _ done))
+
+  -- ---- slot 14
+  ram-sound : (e : Device) (key : List ℕ) (empty plain : ℕ) → Shaped e → Made e → Block key
+      → slotFine ramKey (record { key = key; counter = 0; flags = 0; empty = empty }) ≡ true → isMark plain ≡ true → (not (isOn empty) || eqb plain off) ≡ true
+      → Sound (putSlot ramKey (record { key = key; counter = 0; flags = 0; empty = empty }) (setPlain plain e))
+  ram-sound e key empty plain shaped m block fine h ram =
+      let new : Slot = record { key = key; counter = 0; flags = 0; empty = empty } in
+      let small : 14 ≤ 14 = omega arith in
+      let put = put-fits ramKey new (setPlain plain e) small in
+      let there = empty-there ramKey new plain e shaped small (block .long) in
+      let elsewhere = empty-elsewhere ramKey new plain e shaped small (block .long) secretKey (λ z. omega arith) in
+      let whole = slot-set ramKey new plain e shaped small (block .long) (made-ready e m) fine h (ap not elsewhere ∙ m .secret) (ap (λ (b : Bool). not b || eqb plain off) there ∙ ram) in
+      (subst Shaped (sym put) (shape-kept ramKey new (setPlain plain e) (plain-shape shaped) small (block .long) (block .small)), ap made put ∙ is-made _ whole)
+    where
+      plain-shape : Shaped e → Shaped (setPlain plain e)
+      plain-shape s = record { keys = s .keys; key-bytes = s .key-bytes; counters = s .counters; flags = s .flags; empty = s .empty }
+
+  pub reset-sound : Sound (reset d .device)
+  unfolding reset slotFine counterKept kept flagsKept rowOf same
+  reset-sound =
+      either-way Sound _ d _ _ sound
+      (λ done. let e : Device = setDebugger off (setRandom (d .seed) zeroBlock zeroBlock off d) in
+      let m = debugger-set (setRandom (d .seed) zeroBlock zeroBlock off d) (random-set d fact (d .seed) zeroBlock zeroBlock off refl refl) off refl in
+      ram-sound e zeroBlock on off (slots-stay e refl refl refl refl) m zero-block refl refl refl)
+
+  pub load-plain-key-sound : (key : List ℕ) → Bytes key → Sound (loadPlainKey d key .device)
+  unfolding loadPlainKey slotFine counterKept kept flagsKept rowOf
+  load-plain-key-sound key small =
+      either-way Sound _ d _ _ sound
+      (λ done. let long = eqb-true (length key) 16 (other-lengths d (eqb (length key) 16) [] done) in
+      ram-sound d key off on (sound .0) fact (record { long = long; small = small }) refl refl refl)

@@ -1,0 +1,128 @@
+-- LOAD_KEY and EXPORT_RAM_KEY keep a made device made.
+-- Assumes nothing.
+use mathlib.Core.Path.{_≡_, refl, sym, ap, ap₂, _∙_, subst}
+use mathlib.Core.Bool.{Bool, true, false, not, cond, _||_, or-true}
+use mathlib.Core.List.{List}
+use Prim.Native.Nat.{ℕ, _+_, _*_, _≤_}
+use native.Mathlib.Decide.{ℕ-discrete}
+use native.Mathlib.Omega.{arith}
+use borrow.Author.Tests.{le-leb, eq-eqb, ne-eqb}
+use lib.Dec.{eqb, leb}
+use lib.ListN.{length, replicate}
+use Rattle.laws.specs.Lengths.{right}
+use Rattle.laws.specs.Ranges.{within, rowOf}
+use Rattle.laws.proofs.And.{and-twice}
+use Rattle.laws.proofs.Lengths.{each-right}
+use Rattle.aes.specs.State.{byte, state, Bytes, Block}
+use Rattle.aes.proofs.Bytes.{state-block, tested-bytes}
+use Rattle.message.specs.Building.{uidOf, targetOf, authorityOf}
+use Rattle.message.specs.FirstBlock.{maxCounter}
+use Rattle.message.specs.Slots.{flagsKept, counterKept}
+use Rattle.message.specs.declared.Opened.{Opened}
+use Rattle.message.proofs.Building.{opens}
+use Rattle.message.proofs.Slots.{pair-slots}
+use Rattle.device.specs.Made.{isMark, slotFine, made, Sound}
+use Rattle.device.specs.Record.{secretKey, ramKey, off, isEmpty, blockAt, setPlain, withSlot, Shaped}
+use Rattle.device.specs.Rules.{kept}
+use Rattle.device.specs.declared.Device.{Device}
+use Rattle.device.specs.declared.Slot.{Slot}
+use Rattle.device.proofs.Made.{Made, facts, is-made, made-ready, slot-set, empty-elsewhere}
+use Rattle.device.proofs.Outcome.{either-way}
+use Rattle.device.proofs.Slots.{put-fits, shape-kept}
+use Rattle.load.specs.Export.{exportRamKey}
+use Rattle.load.specs.Load.{fiveLengths, guardAnswer, messageAnswer, loadAnswer, openedBy, loadKey}
+use Rattle.load.specs.Rules.{authorityKey, plainAfter, loaded}
+use Rattle.load.proofs.Loading.{guarded, accepted, by-guards, by-message}
+
+-- ---- an answer of 0 to the ten checks is one to the first six, and one to the last four
+module _ (d : Device) (lengths : Bool) (one : List ℕ) (new : Opened) (e : loadAnswer d lengths one new ≡ 0) where
+  pub all-guards : guardAnswer d lengths (targetOf one) (authorityOf one) ≡ 0
+  all-guards = tests (ℕ-discrete (guardAnswer d lengths (targetOf one) (authorityOf one)) 0)
+    where
+      tests : Dec (guardAnswer d lengths (targetOf one) (authorityOf one) ≡ 0) → guardAnswer d lengths (targetOf one) (authorityOf one) ≡ 0
+      tests (yes z) = z
+      tests (no h) = by-guards d lengths one new h ∙ e
+
+  pub all-checks : messageAnswer d (targetOf one) (uidOf one) new ≡ 0
+  all-checks = by-message d lengths one new all-guards ∙ e
+
+-- ---- an authority's key is a block
+pub authority-block : (d : Device) (a : ℕ) → Shaped d → Block (authorityKey d a)
+unfolding authorityKey blockAt
+authority-block d a shaped = tests (isEmpty d a)
+  where
+    tests : (b : Bool) → Block (cond b (replicate 16 0xff) (state (λ i. byte (d .keys) (16 * a + i))))
+    tests true = record { long = refl; small = tested-bytes (replicate 16 0xff) refl }
+    tests false = state-block (λ i. byte (d .keys) (16 * a + i)) (λ i. shaped .key-bytes (16 * a + i))
+
+-- ---- what the target then holds is what it may hold
+counter-kept-fits : (t c : ℕ) → c ≤ maxCounter → leb (counterKept t c) (counterKept t maxCounter) ≡ true
+unfolding counterKept rowOf
+counter-kept-fits t c h = tests (within 1 13 t)
+  where
+    tests : (b : Bool) → leb (cond b c 0) (cond b maxCounter 0) ≡ true
+    tests true = le-leb c maxCounter h
+    tests false = refl
+
+kept-again : (t f : ℕ) → eqb (kept t (kept t f)) (kept t f) ≡ true
+unfolding kept
+kept-again t f = eq-eqb _ _ (and-twice f (flagsKept t))
+
+module _ (t c f : ℕ) (key : List ℕ) where
+  stored : Slot
+  stored = record { key = key; counter = counterKept t c; flags = kept t f; empty = off }
+
+  stored-fine : c ≤ maxCounter → slotFine t stored ≡ true
+  unfolding stored slotFine
+  stored-fine h = rw (counter-kept-fits t c h, kept-again t f) refl
+
+-- ---- the plain mark
+plain-is-mark : (t plain : ℕ) → isMark plain ≡ true → isMark (plainAfter t plain) ≡ true
+unfolding plainAfter
+plain-is-mark t plain h = tests (eqb t ramKey)
+  where
+    tests : (b : Bool) → isMark (cond b off plain) ≡ true
+    tests true = refl
+    tests false = h
+
+module _ (d : Device) (shaped : Shaped d) (m : Made d) (t c f : ℕ) (key : List ℕ) (low : 1 ≤ t) (high : t ≤ 14) (block : Block key) where
+  plain-fits : (not (isEmpty (withSlot t (stored t c f key) d) ramKey) || eqb (plainAfter t (d .plain)) off) ≡ true
+  unfolding stored plainAfter
+  plain-fits = tests (ℕ-discrete ramKey t)
+    where
+      tests : Dec (ramKey ≡ t) → (not (isEmpty (withSlot t (stored t c f key) d) ramKey) || eqb (cond (eqb t ramKey) off (d .plain)) off) ≡ true
+      tests (yes e) =
+          ap (λ (b : Bool). not (isEmpty (withSlot t (stored t c f key) d) ramKey) || eqb (cond b off (d .plain)) off) (eq-eqb t ramKey (sym e))
+          ∙ or-true (not (isEmpty (withSlot t (stored t c f key) d) ramKey))
+      tests (no h) =
+          ap₂ (λ (a b : Bool). not a || eqb (cond b off (d .plain)) off) (empty-elsewhere t (stored t c f key) off d shaped high (block .long) ramKey h) (ne-eqb t ramKey (λ e. h (sym e)))
+          ∙ m .ram
+
+  pub loaded-sound : c ≤ maxCounter → Sound (loaded d t c f key)
+  unfolding loaded stored
+  loaded-sound h =
+      let plain = plainAfter t (d .plain) in
+      let put = put-fits t (stored t c f key) (setPlain plain d) high in
+      let elsewhere = empty-elsewhere t (stored t c f key) off d shaped high (block .long) secretKey (λ e. omega (arith, low, e)) in
+      let whole = slot-set t (stored t c f key) plain d shaped high (block .long) (made-ready d m) (stored-fine t c f key h) (plain-is-mark t (d .plain) (m .plain-mark)) (ap not elsewhere ∙ m .secret) plain-fits in
+      let shape : Shaped (setPlain plain d) = record { keys = shaped .keys; key-bytes = shaped .key-bytes; counters = shaped .counters; flags = shaped .flags; empty = shaped .empty } in
+      (subst Shaped (sym put) (shape-kept t (stored t c f key) (setPlain plain d) shape high (block .long) (block .small)), ap made put ∙ is-made _ whole)
+
+-- ---- the commands
+module _ (n : ℕ) (few : n ≤ 100) (d : Device) (sound : Sound d) where
+  pub load-key-sound : (one two three b4 b5 : List ℕ) → Bytes two → Sound (loadKey n d one two three b4 b5 .device)
+  unfolding loadKey
+  load-key-sound one two three b4 b5 small =
+      either-way Sound _ d _ _ sound
+      (λ zero. let lengths : Bool = right (fiveLengths (length one) (length two) (length three) (length b4) (length b5)) in
+      let new : Opened = openedBy n d one two three in
+      let g = guarded d lengths (targetOf one) (authorityOf one) (all-guards d lengths one new zero) in
+      let a = accepted d (targetOf one) (uidOf one) new (all-checks d lengths one new zero) in
+      let l = each-right _ (g .lengths-right) in
+      let slots = pair-slots (targetOf one) (authorityOf one) (g .pair) in
+      let carried = opens n few (authorityKey d (authorityOf one)) one two three (authority-block d (authorityOf one) (sound .0)) (l 0) (record { long = l 1; small = small }) (l 2) (a .genuine) (a .zeros) .0 in
+      loaded-sound d (sound .0) (facts d (sound .1)) (targetOf one) (new .counter) (new .flags) (new .key) (slots .0) (slots .1) (carried .key-fits) (carried .counter-fits))
+
+  pub export-ram-key-sound : (b1 b2 b3 b4 b5 : List ℕ) → Sound (exportRamKey n d b1 b2 b3 b4 b5 .device)
+  unfolding exportRamKey
+  export-ram-key-sound b1 b2 b3 b4 b5 = either-way Sound _ d _ _ sound (λ done. sound)
