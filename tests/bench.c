@@ -1,4 +1,4 @@
-/* Our AES-128, its modes and key messages beside BearSSL's and libtomcrypt's, in one run.
+/* Our AES-128, its modes, key messages and commands beside BearSSL's and libtomcrypt's, in one run.
  *
  * All of them are checked to give the same bytes first. Each figure is the best of ROUNDS rounds, and each round measures
  * everything once, so that a slow moment of the machine falls on all alike. Blocks are chained, each the input of the next.
@@ -28,6 +28,10 @@ uint8_t bench_cmac(const uint8_t *key, size_t key_len, uint64_t bits, const uint
 uint8_t bench_write_key(const uint8_t *uid, size_t uid_len, uint8_t target, uint8_t authority, const uint8_t *secret, size_t secret_len,
                         uint32_t counter, uint8_t flags, const uint8_t *new_key, size_t new_key_len, uint8_t *m1, size_t m1_len,
                         uint8_t *m2, size_t m2_len, uint8_t *m3, size_t m3_len);
+
+uint8_t bench_status(const uint8_t *uid, size_t uid_len, const uint8_t *secret, size_t secret_len, const uint8_t *seed, size_t seed_len);
+uint8_t bench_plain_key(const uint8_t *uid, size_t uid_len, const uint8_t *secret, size_t secret_len, const uint8_t *seed, size_t seed_len,
+                        const uint8_t *plain_key, size_t plain_key_len, const uint8_t *in, size_t in_len, uint8_t *out, size_t out_len);
 
 static uint8_t key[16], iv[16], text[16 * BLOCKS], other_text[16 * BLOCKS], schedule[176], mac[16];
 static br_aes_small_cbcenc_keys small_enc;
@@ -229,6 +233,22 @@ static void tom_block(uint8_t block[16]) { aes_ecb_encrypt(block, block, &tom); 
 static const struct engine tom_engine = {tom_set, tom_block};
 static void tom_message(void) { peer_messages(&tom_engine); }
 
+/* ---- commands of a device that lives for one call: made and asked for its status, and made, given a plain key and used */
+
+static uint8_t uid[15] = {1};
+
+static void our_status(void)
+{
+    for (int i = 0; i < BLOCKS; i++)
+        uid[1] = (uint8_t)(bench_status(uid, 15, secret, 16, key, 16) + i);
+}
+
+static void our_plain_key(void)
+{
+    for (int i = 0; i < BLOCKS; i++)
+        bench_plain_key(uid, 15, secret, 16, key, 16, key, 16, text, 16, text, 16);
+}
+
 enum { OURS, SMALL, BIG, TOM, WHO };
 enum { ENCRYPT, DECRYPT, SCHEDULE, KEYED, CBC_ENCRYPT, CBC_DECRYPT, CMAC, MESSAGE, WORK };
 
@@ -316,6 +336,13 @@ static void check(void)
         bench_decrypt(schedule, block, other);
         aes_ecb_decrypt(block, cipher, &tom);
         must_agree("decrypt, libtomcrypt", cipher, other);
+        uid[0] = (uint8_t)(1 + i % 255);
+        if (bench_status(uid, 15, key, 16, block, 16) != 0 || bench_plain_key(uid, 15, block, 16, block, 16, key, 16, block, 16, other, 16) != 0) {
+            fprintf(stderr, "bench: a command is refused\n");
+            exit(1);
+        }
+        bench_encrypt(schedule, block, cipher);
+        must_agree("ENC_ECB with a plain key", cipher, other);
         check_modes(16 + (size_t)i % 128);
         memcpy(secret, block, 16);
         check_message("key message, aes_small", &small_engine, (uint32_t)rand() % 0x10000000, i % 32);
@@ -331,20 +358,28 @@ static double now(void)
     return (double)t.tv_sec * 1e9 + (double)t.tv_nsec;
 }
 
+/* Keeps the best of the rounds, in nanoseconds each. */
+static void measure(int round, void (*run)(void), int count, double *best)
+{
+    double start = now();
+    run();
+    double took = (now() - start) / count;
+    if (round == 0 || took < *best)
+        *best = took;
+}
+
 int main(void)
 {
-    double best[WORK][WHO];
+    double best[WORK][WHO], status = 0, plain_key = 0;
     check();
     make_keys();
-    for (int round = 0; round < ROUNDS; round++)
+    for (int round = 0; round < ROUNDS; round++) {
         for (int i = 0; i < WORK; i++)
-            for (int who = 0; who < WHO; who++) {
-                double start = now();
-                work[i].run[who]();
-                double took = (now() - start) / work[i].count;
-                if (round == 0 || took < best[i][who])
-                    best[i][who] = took;
-            }
+            for (int who = 0; who < WHO; who++)
+                measure(round, work[i].run[who], work[i].count, &best[i][who]);
+        measure(round, our_status, BLOCKS, &status);
+        measure(round, our_plain_key, BLOCKS, &plain_key);
+    }
     printf("%-22s %8s %10s %8s %11s   %s\n", "nanoseconds", "ours", "aes_small", "aes_big", "libtomcrypt", "ours / each of them");
     for (int i = 0; i < WORK; i++) {
         const double *b = best[i];
@@ -356,5 +391,7 @@ int main(void)
            best[CMAC][OURS] / best[ENCRYPT][OURS]);
     printf("ours, a key message against its 10 blocks and 6 key schedules: %.3f\n",
            best[MESSAGE][OURS] / (10 * best[ENCRYPT][OURS] + 6 * best[SCHEDULE][OURS]));
+    printf("ours, commands besides their cryptography, nanoseconds: making and GET_STATUS %.1f; making, LOAD_PLAIN_KEY and ENC_ECB %.1f\n", status,
+           plain_key - best[KEYED][OURS]);
     return 0;
 }

@@ -1,10 +1,12 @@
-// What `make bench` calls from C: the engine on whole arrays, with no length to test, and the modes and the writer of
-// key messages on lent buffers.
+// What `make bench` calls from C: the engine on whole arrays, with no length to test, the modes and the writer of key messages
+// on lent buffers, and commands of a device that lives for one call.
 ghost use mathlib.Core.Path.{_≡_};
+ghost use mathlib.Core.List.{_∷_, []};
 ghost use Rattle.aes.specs.Schedule.{keyExpansion};
 ghost use Rattle.aes.specs.Cipher.{cipherWith, invCipherWith, cipher};
 ghost use Rattle.modes.specs.Routines.{cbcEncryption, cbcDecryption, authentication};
 ghost use Rattle.message.specs.Writer.{messages, fullForm};
+ghost use Rattle.commands.specs.Commands.{make, getStatus, loadPlainKey, encEcb};
 
 #[no_mangle]
 pub extern "C" fn bench_schedule(key: &[u8; 16], w: &mut [u8; 176])
@@ -85,4 +87,28 @@ pub extern "C" fn bench_write_key(
         m2,
         m3,
     )
+}
+
+// A device is made and asked for its status: two commands with no cryptography in them, so that this is what a command costs
+// besides.
+#[no_mangle]
+pub extern "C" fn bench_status(uid: &[u8], secret: &[u8], seed: &[u8]) -> u8
+    ensures { λ r. ⌜ r ≡ getStatus (make (now (uid .entry)) (now (secret .entry)) (now (seed .entry)) .device) .value ⌝ }
+{
+    let made = commands::make(uid, secret, seed);
+    let device = made.device;
+    commands::get_status(device).status
+}
+
+// A device is made, takes a plain key, and enciphers a block with it: three commands and one block.
+#[no_mangle]
+pub extern "C" fn bench_plain_key(uid: &[u8], secret: &[u8], seed: &[u8], key: &[u8], input: &[u8], output: &mut [u8]) -> u8
+    ensures { λ r. ⌜ r ≡ encEcb (loadPlainKey (make (now (uid .entry)) (now (secret .entry)) (now (seed .entry)) .device) (now (key .entry)) .device) 14 (now (input .entry)) (now (output .entry)) .answer ⌝ }
+    ensures { λ _. ⌜ now (output .exit) ∷ [] ≡ encEcb (loadPlainKey (make (now (uid .entry)) (now (secret .entry)) (now (seed .entry)) .device) (now (key .entry)) .device) 14 (now (input .entry)) (now (output .entry)) .buffers ⌝ }
+{
+    let made = commands::make(uid, secret, seed);
+    let device = made.device;
+    let keyed = commands::load_plain_key(device, key);
+    let ready = keyed.device;
+    commands::enc_ecb(ready, 14, input, output).answer
 }

@@ -359,11 +359,11 @@ pub fn init_rng(device: Device) -> Reply
     }
     let secret = device::key_at(device, device::SECRET_KEY);
     let before = device.seed;
-    let seed = aes::encrypt(modes::derive(secret, Constant::PrngSeedKey), before);
+    let next = aes::encrypt(modes::derive(secret, Constant::PrngSeedKey), before);
     let key = modes::derive(secret, Constant::PrngKey);
     let mut after = device;
-    after.seed = seed;
-    after.state = seed;
+    after.seed = next;
+    after.state = next;
     after.rngkey = key;
     after.rng = ON;
     Reply {

@@ -130,7 +130,7 @@ pub fn flags_at(device: Device, slot: u8) -> u8
     byte_at(&device.flags, slot as usize)
 }
 
-pub fn empty_at(device: Device, slot: u8) -> u8
+fn empty_at(device: Device, slot: u8) -> u8
     ensures { λ r. ⌜ r ≡ emptyAt device slot ⌝ }
 {
     byte_at(&device.empty, slot as usize)

@@ -33,9 +33,9 @@ fn five_lengths(first: usize, second: usize, third: usize, fourth: usize, fifth:
     (first == 16) & (second == 32) & (third == 16) & (fourth == 32) & (fifth == 16)
 }
 
-// M4 and M5, with the device's own UID, whatever UID the message had.
+// M4 and M5 of a device with this UID.
 fn write_proof(
-    device: Device,
+    uid: [u8; 15],
     target: u8,
     authority: u8,
     counter: u32,
@@ -44,10 +44,10 @@ fn write_proof(
     fifth: &mut [u8],
 )
     requires { ⌜ (allowed target authority ≡ true) × (counter ≤ maxCounter) × (length (now fourth) ≡ 32) × (length (now fifth) ≡ 16) ⌝ }
-    ensures { λ _. ⌜ now (fourth .exit) ≡ m4 (device .uid) target authority (counterKept target counter) key ⌝ }
-    ensures { λ _. ⌜ now (fifth .exit) ≡ m5 key (m4 (device .uid) target authority (counterKept target counter) key) ⌝ }
+    ensures { λ _. ⌜ now (fourth .exit) ≡ m4 uid target authority (counterKept target counter) key ⌝ }
+    ensures { λ _. ⌜ now (fifth .exit) ≡ m5 key (m4 uid target authority (counterKept target counter) key) ⌝ }
 {
-    message::write_answer(&device.uid, target, authority, counter, &key, fourth, fifth);
+    message::write_answer(&uid, target, authority, counter, &key, fourth, fifth);
 }
 
 // ---- the rules of a load
@@ -172,15 +172,18 @@ pub fn load_key(
         };
     }
     let new = message::open(&authority_key(device, authority), m1, m2, m3);
-    let answer = message_answer(device, target, device::uid_from(m1), new);
+    let uid = device::uid_from(m1);
+    let answer = message_answer(device, target, uid, new);
     if answer != NO_ERROR {
         return Reply {
             answer: answer,
             device: device,
         };
     }
+    // The proof names the device itself, also where the message had the wildcard.
+    let own = device.uid;
     let key = new.key;
-    write_proof(device, target, authority, new.counter, key, m4, m5);
+    write_proof(own, target, authority, new.counter, key, m4, m5);
     Reply {
         answer: NO_ERROR,
         device: loaded(device, target, new),
@@ -226,21 +229,11 @@ pub fn export_ram_key(
             device: device,
         };
     }
+    let own = device.uid;
     let secret = device::key_at(device, SECRET_KEY);
     let key = device::key_at(device, RAM_KEY);
-    message::write_key(
-        &device.uid,
-        RAM_KEY,
-        SECRET_KEY,
-        &secret,
-        0,
-        0,
-        &key,
-        m1,
-        m2,
-        m3,
-    );
-    write_proof(device, RAM_KEY, SECRET_KEY, 0, key, m4, m5);
+    message::write_key(&own, RAM_KEY, SECRET_KEY, &secret, 0, 0, &key, m1, m2, m3);
+    write_proof(own, RAM_KEY, SECRET_KEY, 0, key, m4, m5);
     Reply {
         answer: NO_ERROR,
         device: device,

@@ -92,7 +92,7 @@ returns-2 c = let m = c .before in
     message-refused flagCount (a .device) (a .m1 .now) (a .m2 .now) (a .m3 .now) (a .m4 .now) (a .m5 .now) _ (guard (o .before)) (n .«open» .result) _ (o .if1 .left) (new n) (message m) (c .if2 .taken)
 
 write-proof-requires : tie.Need-write-proof-requires
-write-proof-requires c κs = let e = c .before .before .before in
+write-proof-requires c κs = let e = c .before .before .before .before in
     let o = e .before .before .before .before .before .before in
     let g = o .before .before in
     (rw (target (g .before), authority g) (passed o .pair), e .before .before .before .«open» .ensures .1, lengths o 3, lengths o 4)
@@ -108,7 +108,7 @@ same-length-2 c = search needs
 
 returns-3 : tie.Need-returns-3
 returns-3 c = let w = c .before .before .before .before .before in
-    let e = w .before .before .before .before in
+    let e = w .before .before .before .before .before in
     let m = e .before in
     let n = m .before .before in
     let o = n .before .before .before in

@@ -10,6 +10,9 @@ use Rattle.load.proofs.write_proof.Tie as tie
 slice-aggregate-write-answer : tie.Need-slice-aggregate-write-answer
 slice-aggregate-write-answer c = search needs
 
+slice-aggregate-write-answer-2 : tie.Need-slice-aggregate-write-answer-2
+slice-aggregate-write-answer-2 c = search needs
+
 write-answer-requires : tie.Need-write-answer-requires
 write-answer-requires c κs = search needs
 
@@ -21,13 +24,19 @@ same-length-2 c = search needs
 
 returns : tie.Need-returns
 returns c = let w = c .before .before .before .before in
-    let s = w .before .before .before .before .before .before .before .before .before in
+    let s = w .before .before .before .before .before .before .before in
     let a = s .args in
-    let long : length (a .t1 .uid) ≡ 15 = search needs in
+    let long : length (a .t1) ≡ 15 = search needs in
     let long-key : length (a .t5) ≡ 16 = search needs in
-    wrote-proof (a .t1 .uid) (a .t5) (a .target) (a .authority) (a .counter) long long-key (s .pre .1) (s .pre .0) (a .fourth .now) (a .fifth .now) _ _ _ (s .pre .2) (s .pre .3) (w .write-answer .ensures)
+    wrote-proof (a .t1) (a .t5) (a .target) (a .authority) (a .counter) long long-key (s .pre .1) (s .pre .0) (a .fourth .now) (a .fifth .now) _ _ _ (s .pre .2) (s .pre .3) (w .write-answer .ensures)
 
 pub write-proof-spec : {M : Type 1} → statement M
 write-proof-spec =
     tie.close
-    (tie.spec slice-aggregate-write-answer write-answer-requires same-length same-length-2 returns)
+    (tie.spec
+    slice-aggregate-write-answer
+    slice-aggregate-write-answer-2
+    write-answer-requires
+    same-length
+    same-length-2
+    returns)
