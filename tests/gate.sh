@@ -34,6 +34,10 @@ rt fmt --check
 count $? "the layout of the files (rt fmt)"
 python3 tests/compare.py sh tests/run-program.sh vectors
 count $? "the comparison with the second program"
+python3 tests/cases.py <crates/cases/stdin | cmp - crates/cases/stdout
+count $? "the second program's account of the cases"
+python3 tests/replay.py sh tests/run-program.sh cases
+count $? "random days of the device, on both programs"
 
 echo "$passed passed, $failed failed"
 [ "$failed" -eq 0 ]

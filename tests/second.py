@@ -1,10 +1,11 @@
-"""A second AES-128, written from FIPS 197 apart from the first, to compare it with.
+"""A second AES-128, written from FIPS 197 apart from the first, to compare it with; on it the modes, key messages and the device.
 
 It shares nothing with the proved one: the field goes by logarithms to the base {03}, the state is four rows of four, the
 S-box is made from the field when the program starts, and the inverse cipher undoes the cipher's steps from the last to the
 first.
 """
 
+import dataclasses
 import functools
 
 EXP = [1]
@@ -273,3 +274,206 @@ def open_messages(secret, m1, m2, m3):
     clear = cbc_decrypt(derive(secret, 1), bytes(16), m2, m2)[1]
     string = f"{integer(clear[:16]):0128b}"
     return 1, int(string[:28], 2), int(string[28:33], 2), int("1" not in string[33:]), clear[16:]
+
+
+# ---- the device, from its scope: slots as records with sets of flags, and a command as a method. A method gives its answer and,
+# where it has more to give, what its buffers then hold; a refusal leaves the device and the buffers as they were.
+
+SECRET_KEY, MASTER_ECU_KEY, RAM_KEY = 0, 1, 14
+VOLATILE = {"state": bytes(16), "random_key": bytes(16), "initialised": 0, "plain": 0, "debugger": 0}
+
+
+@dataclasses.dataclass
+class Slot:
+    key: bytes = bytes(16)
+    counter: int = 0
+    flags: frozenset = frozenset()
+    empty: int = 0
+
+    def number(self):
+        return sum(FLAGS[name] for name in self.flags)
+
+
+def empty_slot():
+    return Slot(empty=1)
+
+
+@dataclasses.dataclass
+class Device:
+    """The blank one, unless told otherwise; marks are numbers, so that a damaged record can be had."""
+
+    uid: bytes = bytes(15)
+    slots: list = dataclasses.field(default_factory=lambda: [Slot() for _ in range(15)])
+    seed: bytes = bytes(16)
+    state: bytes = bytes(16)
+    random_key: bytes = bytes(16)
+    initialised: int = 0
+    plain: int = 0
+    debugger: int = 0
+    made: int = 0
+
+    def is_made(self):
+        marks = [self.initialised, self.plain, self.debugger, self.made] + [slot.empty for slot in self.slots]
+        return (
+            all(mark in (0, 1) for mark in marks)
+            and self.made == 1
+            and self.uid != bytes(15)
+            and not self.slots[SECRET_KEY].empty
+            and all(slot.counter <= 268435455 for slot in self.slots)
+            and not any(slot.flags & WITHOUT.get(n, set(FLAGS)) for n, slot in enumerate(self.slots))
+            and all(slot == empty_slot() for slot in self.slots if slot.empty)
+            and not (self.slots[RAM_KEY].empty and self.plain)
+            and (self.initialised or self.state == self.random_key == bytes(16))
+        )
+
+    def locked(self, slot):
+        return self.debugger and "DEBUGGER" in self.slots[slot].flags
+
+    # a command's first checks: 12, and for those that use a slot the rest of their order
+    def ready(self, lengths=True):
+        return 0 if self.is_made() and lengths else 12
+
+    def usable(self, slot, lengths, users, usage):
+        if self.ready(lengths):
+            return 12
+        if slot not in users:
+            return 3
+        if self.slots[slot].empty:
+            return 4
+        if self.locked(slot):
+            return 2
+        return 3 if slot in KEYS and ("KEY_USAGE" in self.slots[slot].flags) != usage else 0
+
+    def reset(self):
+        answer = self.ready()
+        if not answer:
+            self.slots[RAM_KEY] = empty_slot()
+            vars(self).update(VOLATILE)
+        return answer
+
+    def attach_debugger(self):
+        answer = self.ready()
+        if not answer:
+            self.debugger = 1
+        return answer
+
+    # ECB and CBC: `one_block` and `mode` are the routines above, there or back
+    def ecb(self, one_block, slot, text, output):
+        answer = self.usable(slot, len(text) == len(output) == 16, CIPHERS, False)
+        return (answer, output) if answer else ecb(one_block, self.slots[slot].key, text, output)
+
+    def cbc(self, mode, slot, iv, text, output):
+        answer = self.usable(slot, cbc_lengths(bytes(16), iv, text, output), CIPHERS, False)
+        return (answer, output) if answer else mode(self.slots[slot].key, iv, text, output)
+
+    @staticmethod
+    def mac_lengths(bits, message, mac):
+        return bits <= 524288 and len(message) == 16 * max(1, -(-bits // 128)) and len(mac) == 16
+
+    def generate_mac(self, slot, bits, message, mac):
+        answer = self.usable(slot, self.mac_lengths(bits, message, mac), CIPHERS, True)
+        return (answer, mac) if answer else cmac(self.slots[slot].key, bits, message, mac)
+
+    def verify_mac(self, slot, bits, message, mac, mac_bits):
+        """The answer and the verdict."""
+        answer = self.usable(slot, self.mac_lengths(bits, message, mac) and mac_bits <= 127, VERIFIERS, True)
+        if answer:
+            return answer, 0
+        count = mac_bits or 128
+        expected = cmac(self.slots[slot].key, bits, message, mac)[1]
+        return 0, int(f"{integer(expected):0128b}"[:count] == f"{integer(mac):0128b}"[:count])
+
+    def load_plain_key(self, key):
+        answer = self.ready(len(key) == 16)
+        if not answer:
+            self.slots[RAM_KEY] = Slot(key)
+            self.plain = 1
+        return answer
+
+    def init_rng(self):
+        answer = self.ready() or (1 if self.initialised else 0)
+        if not answer:
+            secret = self.slots[SECRET_KEY].key
+            self.seed = self.state = encrypt(derive(secret, 5), self.seed)
+            self.random_key = derive(secret, 4)
+            self.initialised = 1
+        return answer
+
+    def extend_seed(self, entropy):
+        answer = self.ready(len(entropy) == 16) or (0 if self.initialised else 8)
+        if not answer:
+            self.state, self.seed = extend(self.state, entropy), extend(self.seed, entropy)
+        return answer
+
+    def rnd(self, output):
+        answer = self.ready(len(output) == 16) or (0 if self.initialised else 8)
+        if answer:
+            return answer, output
+        self.state = encrypt(self.random_key, self.state)
+        return 0, self.state
+
+    def status(self):
+        return 32 * self.initialised + 64 * self.debugger
+
+    def get_status(self):
+        answer = self.ready()
+        return answer, 0 if answer else self.status()
+
+    def get_id(self, challenge, output):
+        answer = self.ready(len(challenge) == 16 and len(output) == 32)
+        if answer or self.locked(MASTER_ECU_KEY):
+            return answer or 2, output
+        own, master = self.uid + bytes([self.status()]), self.slots[MASTER_ECU_KEY]
+        return 0, own + (bytes(16) if master.empty else cmac(master.key, 256, challenge + own, bytes(16))[1])
+
+    def authority_key(self, authority):
+        by = self.slots[authority]
+        return b"\xff" * 16 if by.empty else by.key
+
+    def load_answer(self, m1, m2, m3):
+        target, authority = divmod(m1[15], 16)
+        if authority not in AUTHORITIES.get(target, ()):
+            return 3
+        old = self.slots[target]
+        if "WRITE" in old.flags:
+            return 6
+        if self.slots[authority].empty and authority != target:
+            return 4
+        if self.locked(authority):
+            return 2
+        genuine, counter, _, zeros, _ = open_messages(self.authority_key(authority), m1, m2, m3)
+        ours = m1[:15] == self.uid or m1[:15] == bytes(15) and "WILDCARD" not in old.flags
+        rises = target == RAM_KEY or counter > old.counter
+        return 0 if genuine and ours and zeros and rises else 7
+
+    def load_key(self, m1, m2, m3, m4, m5):
+        """The answer, M4 and M5."""
+        lengths = [len(data) for data in (m1, m2, m3, m4, m5)] == [16, 32, 16, 32, 16]
+        answer = self.ready(lengths) or self.load_answer(m1, m2, m3)
+        if answer:
+            return answer, m4, m5
+        target, authority = divmod(m1[15], 16)
+        _, counter, flags, _, key = open_messages(self.authority_key(authority), m1, m2, m3)
+        names = {name for name, value in FLAGS.items() if flags & value}
+        self.slots[target] = Slot(key, stored(target, counter), frozenset(names - WITHOUT.get(target, set(FLAGS))))
+        if target == RAM_KEY:
+            self.plain = 0
+        return 0, *write_answer(self.uid, target, authority, counter, key, m4, m5)[1]
+
+    def export_ram_key(self, *buffers):
+        """The answer, and M1 to M5."""
+        ram = self.slots[RAM_KEY]
+        answer = self.ready([len(data) for data in buffers] == [16, 32, 16, 32, 16])
+        answer = answer or (4 if ram.empty else 0) or (0 if self.plain else 3)
+        if answer:
+            return answer, *buffers
+        secret = self.slots[SECRET_KEY].key
+        first = write_key(self.uid, RAM_KEY, SECRET_KEY, secret, 0, 0, ram.key, *buffers[:3])[1]
+        return 0, *first, *write_answer(self.uid, RAM_KEY, SECRET_KEY, 0, ram.key, *buffers[3:])[1]
+
+
+def make(uid, secret, seed):
+    """The answer, and the device."""
+    if [len(uid), len(secret), len(seed)] != [15, 16, 16] or uid == bytes(15):
+        return 12, Device()
+    return 0, Device(uid, [Slot(secret)] + [empty_slot() for _ in range(14)], seed, made=1)

@@ -102,7 +102,14 @@ pub extern "C" fn bench_status(uid: &[u8], secret: &[u8], seed: &[u8]) -> u8
 
 // A device is made, takes a plain key, and enciphers a block with it: three commands and one block.
 #[no_mangle]
-pub extern "C" fn bench_plain_key(uid: &[u8], secret: &[u8], seed: &[u8], key: &[u8], input: &[u8], output: &mut [u8]) -> u8
+pub extern "C" fn bench_plain_key(
+    uid: &[u8],
+    secret: &[u8],
+    seed: &[u8],
+    key: &[u8],
+    input: &[u8],
+    output: &mut [u8],
+) -> u8
     ensures { λ r. ⌜ r ≡ encEcb (loadPlainKey (make (now (uid .entry)) (now (secret .entry)) (now (seed .entry)) .device) (now (key .entry)) .device) 14 (now (input .entry)) (now (output .entry)) .answer ⌝ }
     ensures { λ _. ⌜ now (output .exit) ∷ [] ≡ encEcb (loadPlainKey (make (now (uid .entry)) (now (secret .entry)) (now (seed .entry)) .device) (now (key .entry)) .device) 14 (now (input .entry)) (now (output .entry)) .buffers ⌝ }
 {

@@ -1,7 +1,7 @@
 // The commands that need no key message, with making, reset and the bench call. Each takes the device by value and hands it back.
 //
-// Every command decides first, on numbers alone, by the order of its checks in `specs/Commands.antt`, and a refusal hands back
-// the device as it came in, with no buffer touched. Only then is a key read.
+// Every command decides first, on numbers alone, by the order of its checks in `specs/Checks.antt`, and a refusal hands back
+// the device as it came in, with no buffer touched. Only then is a key used.
 ghost use mathlib.Core.Path.{_≡_};
 ghost use mathlib.Core.List.{_∷_, [], _++_};
 ghost use Prim.Native.Nat.{_<_};
@@ -81,20 +81,7 @@ pub fn make(uid: &[u8], secret: &[u8], seed: &[u8]) -> Reply
     }
 }
 
-// The answer of a command that uses no slot: not made, lengths.
-fn other_answer(device: Device, lengths: bool) -> u8
-    ensures { λ r. ⌜ r ≡ otherAnswer device lengths [] ⌝ }
-{
-    if !device::is_made(device) {
-        return GENERAL_ERROR;
-    }
-    if !lengths {
-        return GENERAL_ERROR;
-    }
-    NO_ERROR
-}
-
-// And of one with a reason of its own after these.
+// The answer of a command that uses no slot: not made, lengths, and one reason of its own.
 fn own_answer(device: Device, lengths: bool, fault: bool, number: u8) -> u8
     ensures { λ r. ⌜ r ≡ otherAnswer device lengths ((fault, number) ∷ []) ⌝ }
 {
@@ -108,6 +95,13 @@ fn own_answer(device: Device, lengths: bool, fault: bool, number: u8) -> u8
         return number;
     }
     NO_ERROR
+}
+
+// And of one that has none of its own.
+fn other_answer(device: Device, lengths: bool) -> u8
+    ensures { λ r. ⌜ r ≡ otherAnswer device lengths [] ⌝ }
+{
+    own_answer(device, lengths, false, NO_ERROR)
 }
 
 // Power is lost: slot 14, the random numbers and the debugger go.

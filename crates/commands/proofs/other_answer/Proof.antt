@@ -1,25 +1,16 @@
--- `commands::other_answer` meets its contract, check by check.
+-- `commands::other_answer` meets its contract: a reason that never holds is none.
 -- Assumes nothing.
 use Rattle.commands.specs.Checks.{otherAnswer}
 use borrow.Author.Needs.{needs}
-use mathlib.Core.Path.{sym}
 use Rattle.commands.proofs.other_answer.Statement.{statement}
 use Rattle.commands.proofs.other_answer.Tie as tie
 
-is-made-requires : tie.Need-is-made-requires
-is-made-requires c κs = search needs
+own-answer-requires : tie.Need-own-answer-requires
+own-answer-requires c κs = search needs
 
 returns : tie.Need-returns
 unfolding otherAnswer
-returns c = simp (sym (c .before .is-made .ensures), c .if1 .taken)
-
-returns-2 : tie.Need-returns-2
-unfolding otherAnswer
-returns-2 c = simp (sym (c .before .before .is-made .ensures), c .before .if1 .left, c .if2 .taken)
-
-returns-3 : tie.Need-returns-3
-unfolding otherAnswer
-returns-3 c = simp (sym (c .before .before .is-made .ensures), c .before .if1 .left, c .if2 .left)
+returns c = c .own-answer .ensures
 
 pub other-answer-spec : {M : Type 1} → statement M
-other-answer-spec = tie.close (tie.spec is-made-requires returns returns-2 returns-3)
+other-answer-spec = tie.close (tie.spec own-answer-requires returns)

@@ -1,0 +1,1023 @@
+// Plays cases of the device: reads lines, does what each one says, and writes it with what came of it.
+//
+// Nothing here knows what a call should answer. What the program must write is in the file stdout, which a second program has
+// written from the same lines. An answer of 0 is followed by what the command put out and, where it may change the device, by
+// one block made of the whole record; after any other stands whether the device and the lent buffers are as they were.
+//
+// A line is a name and numbers in an order; the other words are for the reader. A number that is left out is larger than any, and
+// a length that is larger than a buffer stands for all of it. Lines that start with # are headings. There is one device, which
+// each line leaves to the next. The names, and their numbers:
+//
+//     MAKE uid, its length, of SECRET_KEY, of the seed, a bit of SECRET_KEY that is changed
+//     DEVICE last, flags                   makes the device, and loads slots 1 to the last by slot 1 with counter 1
+//     SET field, place, value              damages the record, whose fields are counted from 0
+//     RECORD from, to                      these rows of the record, the last left out
+//     RESET, DEBUGGER, INIT_RNG, GET_STATUS
+//     EXTEND_SEED length
+//     RND length
+//     LOAD_PLAIN_KEY slot, length          the key of a slot
+//     GET_ID length in, out
+//     ENC_ECB slot, length in, out         and DEC_ECB
+//     ENC_CBC slot, length in, out, IV     and DEC_CBC; the last block is shown
+//     GENERATE_MAC slot, length in, out, bits
+//     VERIFY_MAC slot, length in, of the MAC, bits, MAC length, a bit of the MAC and one of the message that are changed
+//     ROLES to                             the answers of these six in this order, by slot
+//     LOAD_KEY target, authority, counter, flags, uid, a bit of the first block and one of the messages that are changed, and
+//                                          the lengths of M1 to M5; with no number the last messages again
+//     PAIRS                                the slot bytes that LOAD_KEY takes
+//     EXPORT_RAM_KEY lengths of M1 to M5
+//
+// The key of a slot is made of its number. UID 0 is the wildcard, 1 the device's own, 2 another. VERIFY_MAC takes the block that
+// the last of the five before it put out. Bits are counted from the most significant of the first byte, through M1, M2 and M3.
+ghost use Prim.Native.Nat.{_≤_};
+ghost use lib.ListN.{length};
+use commands::Verdict;
+use device::Device;
+use device::Reply;
+use libc::STDIN_FILENO;
+use libc::STDOUT_FILENO;
+use modes::Constant;
+
+// SECRET_KEY, seed and entropy are those of AUTOSAR TR 948, 4.13.2.6 and 4.13.2.9. The bytes after the right length are there for
+// wrong ones.
+const SECRET: [u8; 17] = *b"\x2b\x7e\x15\x16\x28\xae\xd2\xa6\xab\xf7\x15\x88\x09\xcf\x4f\x3c+";
+
+const SEED: [u8; 17] = *b"\x6b\xc1\xbe\xe2\x2e\x40\x9f\x96\xe9\x3d\x7e\x11\x73\x93\x17\x2a+";
+
+const ENTROPY: [u8; 17] = *b"\xae\x2d\x8a\x57\x1e\x03\xac\x9c\x9e\xb7\x6f\xac\x45\xaf\x8e\x51+";
+
+const UID: [u8; 16] = *b"\xa0\xa1\xa2\xa3\xa4\xa5\xa6\xa7\xa8\xa9\xaa\xab\xac\xad\xae+";
+
+const OTHER_UID: [u8; 16] = *b"\x00\x00\x00\x00\x00\x00\x00\x00\x00\x00\x00\x00\x00\x00\x01+";
+
+// What is enciphered and signed, and what fills a buffer before a call, so that a write to it is seen.
+const TEXT: u8 = 0xa5;
+
+const FILLER: u8 = 0x5a;
+
+// A block more than the most bytes that CBC takes and a MAC covers.
+const ROOM: usize = 65552;
+
+// A number that a line hasn't.
+const ABSENT: u64 = 0xffffffffffffffff;
+
+const NOTHING: [u8; 0] = [];
+
+// Names by their numbers, twenty characters to each.
+const ANSWERS: [u8; 260] = *b"NO_ERROR            \
+SEQUENCE_ERROR      \
+KEY_NOT_AVAILABLE   \
+KEY_INVALID         \
+KEY_EMPTY           \
+NO_SECURE_BOOT      \
+KEY_WRITE_PROTECTED \
+KEY_UPDATE_ERROR    \
+RNG_SEED            \
+NO_DEBUGGING        \
+BUSY                \
+MEMORY_FAILURE      \
+GENERAL_ERROR       ";
+
+const COMMANDS: [u8; 440] = *b"ENC_ECB             \
+DEC_ECB             \
+ENC_CBC             \
+DEC_CBC             \
+GENERATE_MAC        \
+VERIFY_MAC          \
+RESET               \
+DEBUGGER            \
+INIT_RNG            \
+GET_STATUS          \
+EXTEND_SEED         \
+RND                 \
+LOAD_PLAIN_KEY      \
+GET_ID              \
+LOAD_KEY            \
+EXPORT_RAM_KEY      \
+MAKE                \
+DEVICE              \
+SET                 \
+RECORD              \
+ROLES               \
+PAIRS               ";
+
+const ENC_ECB: u8 = 0;
+
+const DEC_ECB: u8 = 1;
+
+const ENC_CBC: u8 = 2;
+
+const DEC_CBC: u8 = 3;
+
+const GENERATE_MAC: u8 = 4;
+
+const VERIFY_MAC: u8 = 5;
+
+const RESET: u8 = 6;
+
+const DEBUGGER: u8 = 7;
+
+const INIT_RNG: u8 = 8;
+
+const GET_STATUS: u8 = 9;
+
+const EXTEND_SEED: u8 = 10;
+
+const RND: u8 = 11;
+
+const LOAD_PLAIN_KEY: u8 = 12;
+
+const GET_ID: u8 = 13;
+
+const LOAD_KEY: u8 = 14;
+
+const EXPORT_RAM_KEY: u8 = 15;
+
+const MAKE: u8 = 16;
+
+const DEVICE: u8 = 17;
+
+const SET: u8 = 18;
+
+const RECORD: u8 = 19;
+
+const ROLES: u8 = 20;
+
+const PAIRS: u8 = 21;
+
+const NO_COMMAND: u8 = 22;
+
+// What a line leaves to the next: the device, the last M1 to M5, and the block that a cipher or GENERATE_MAC put out last.
+struct Bench {
+    device: Device,
+    messages: [u8; 112],
+    block: [u8; 16],
+}
+
+struct Numbers {
+    n: [u64; 12],
+    count: usize,
+    inside: bool,
+}
+
+// What a cipher or GENERATE_MAC left: the last block of its output, and whether all of that is as it was.
+struct Used {
+    answer: u8,
+    device: Device,
+    clean: bool,
+    block: [u8; 16],
+}
+
+// What LOAD_KEY or EXPORT_RAM_KEY left, with M1 to M5.
+struct Left {
+    answer: u8,
+    device: Device,
+    messages: [u8; 112],
+}
+
+// ---- bytes
+
+// The first n bytes, or all.
+fn front(bytes: &[u8], n: u64) -> &[u8] {
+    let end = n as usize;
+    if end < bytes.len() {
+        &bytes[..end]
+    } else {
+        bytes
+    }
+}
+
+fn front_mut(bytes: &mut [u8], n: u64) -> &mut [u8] {
+    let end = n as usize;
+    if end < bytes.len() {
+        &mut bytes[..end]
+    } else {
+        bytes
+    }
+}
+
+// The bytes from a place on.
+fn rest(bytes: &[u8], from: usize) -> &[u8] {
+    if from < bytes.len() {
+        &bytes[from..]
+    } else {
+        bytes
+    }
+}
+
+// The last 16 bytes, or all.
+fn last_block(bytes: &[u8]) -> &[u8] {
+    if 16 < bytes.len() {
+        rest(bytes, bytes.len() - 16)
+    } else {
+        bytes
+    }
+}
+
+// Changes a bit, where there is one of this number.
+fn flip(text: &mut [u8], bit: u64) {
+    let at = (bit / 8) as usize;
+    if at < text.len() {
+        text[at] = text[at] ^ 128 >> bit % 8;
+    }
+}
+
+// Puts a part into its place, as far as there is room.
+fn put(into: &mut [u8], at: usize, part: &[u8]) {
+    let mut to = at;
+    let mut i: usize = 0;
+    while i < part.len() && to < into.len() {
+        into[to] = part[i];
+        to += 1;
+        i += 1;
+    }
+}
+
+// A buffer with a block put into a row of it.
+fn with_row(rows: [u8; 560], row: u8, block: [u8; 16]) -> [u8; 560] {
+    let mut after = rows;
+    put(&mut after, 16 * (row as usize), &block);
+    after
+}
+
+fn is_filler(buffer: &[u8]) -> bool {
+    let mut all = true;
+    let mut i: usize = 0;
+    while i < buffer.len() {
+        all = all & (buffer[i] == FILLER);
+        i += 1;
+    }
+    all
+}
+
+// ---- reading
+
+// What stands before the first space.
+fn word(text: &[u8]) -> &[u8] {
+    let mut i: usize = 0;
+    while i < text.len() && text[i] != b' ' {
+        i += 1;
+    }
+    &text[..i]
+}
+
+fn name_of(table: &[u8], number: u8) -> &[u8] {
+    word(rest(table, 20 * (number as usize)))
+}
+
+fn command_of(line: &[u8]) -> u8 {
+    let name = word(line);
+    let mut number: u8 = 0;
+    while number < NO_COMMAND && !message::is_same(name, name_of(&COMMANDS, number)) {
+        number += 1;
+    }
+    number
+}
+
+fn is_digit(c: u8) -> bool {
+    (b'0' <= c) & (c <= b'9')
+}
+
+fn with_digit(value: u64, digit: u8) -> u64 {
+    let units = (digit % 16) as u64;
+    if value < 0x1999999999999998 {
+        10 * value + units
+    } else {
+        units
+    }
+}
+
+fn with_character(before: Numbers, c: u8) -> Numbers {
+    let at = before.count % 12;
+    let mut after = before;
+    after.inside = is_digit(c);
+    if after.inside {
+        after.n[at] = with_digit(before.n[at], c);
+    } else if before.inside {
+        after.count = at + 1;
+    }
+    after
+}
+
+fn numbers_of(line: &[u8]) -> [u64; 12] {
+    let mut numbers = Numbers {
+        n: [ABSENT; 12],
+        count: 0,
+        inside: false,
+    };
+    let mut i: usize = 0;
+    while i < line.len() {
+        numbers = with_character(numbers, line[i]);
+        i += 1;
+    }
+    numbers.n
+}
+
+// The first four numbers of a line that has no more.
+fn given(a: u8, b: u64, c: u64, d: u64) -> [u64; 12] {
+    let mut n = [ABSENT; 12];
+    n[0] = a as u64;
+    n[1] = b;
+    n[2] = c;
+    n[3] = d;
+    n
+}
+
+// A number for a parameter of 8 bits: too large a one becomes the largest.
+fn byte_of(value: u64) -> u8 {
+    if value < 256 { value as u8 } else { 255 }
+}
+
+// ---- writing
+
+fn write(text: &[u8]) {
+    io::write_all(STDOUT_FILENO, text);
+}
+
+fn letter(nibble: u8) -> u8 {
+    b"0123456789ABCDEF"[(nibble % 16) as usize]
+}
+
+fn write_byte(byte: u8) {
+    write(&[letter(byte >> 4), letter(byte)]);
+}
+
+fn write_number(name: &[u8], n: u64) {
+    write(name);
+    io::print_decimal(STDOUT_FILENO, n);
+}
+
+fn write_hex(name: &[u8], bytes: &[u8]) {
+    write(name);
+    let mut i: usize = 0;
+    while i < bytes.len() {
+        write_byte(bytes[i]);
+        i += 1;
+    }
+}
+
+fn write_answer(answer: u8) {
+    write_number(b": ", answer as u64);
+    write(b" ");
+    write(name_of(&ANSWERS, answer));
+}
+
+// ---- the record, in rows of 16 bytes: for each slot its key, and then counter, flags and empty mark; UID, seed, random state,
+// random key, and the marks
+
+fn bytes_of(counter: u32) -> [u8; 4] {
+    [
+        (counter >> 24) as u8,
+        ((counter >> 16) % 256) as u8,
+        ((counter >> 8) % 256) as u8,
+        (counter % 256) as u8,
+    ]
+}
+
+fn slot_row(device: Device, slot: u8) -> [u8; 16] {
+    let mut row = [0u8; 16];
+    put(&mut row, 0, &bytes_of(device::counter_at(device, slot)));
+    row[4] = device::flags_at(device, slot);
+    row[5] = device::byte_at(&device.empty, slot as usize);
+    row
+}
+
+fn slots_image(device: Device) -> [u8; 560] {
+    let mut image = [0u8; 560];
+    let mut slot: u8 = 0;
+    while slot <= device::RAM_KEY {
+        let keyed = with_row(image, 2 * slot, device::key_at(device, slot));
+        image = with_row(keyed, 2 * slot + 1, slot_row(device, slot));
+        slot += 1;
+    }
+    image
+}
+
+fn image_of(device: Device) -> [u8; 560] {
+    let seed = device.seed;
+    let state = device.state;
+    let key = device.rngkey;
+    let named = with_row(slots_image(device), 30, device::block_at(&device.uid, 0));
+    let seeded = with_row(named, 31, seed);
+    let mut image = with_row(with_row(seeded, 32, state), 33, key);
+    image[544] = device.rng;
+    image[545] = device.plain;
+    image[546] = device.debugger;
+    image[547] = device.made;
+    image
+}
+
+fn same_device(a: Device, b: Device) -> bool {
+    message::is_same(&image_of(a), &image_of(b))
+}
+
+fn write_row(image: [u8; 560], row: u8) {
+    write_number(b"row ", row as u64);
+    write_hex(b": ", &device::block_at(&image, row));
+    write(b"\n");
+}
+
+fn write_rows(device: Device, from: u8, to: u8) {
+    let image = image_of(device);
+    let mut row = from;
+    while row < to {
+        write_row(image, row);
+        row += 1;
+    }
+}
+
+// One block made of the record.
+fn write_record(device: Device) {
+    let mut block = [0u8; 16];
+    modes::compress(&[0u8; 16], &image_of(device), &mut block);
+    write_hex(b", record ", &block);
+}
+
+// ---- the end of a line
+
+fn write_given(after: Device, reads: bool, shown: &[u8]) {
+    if shown.len() > 0 {
+        write_hex(b", ", shown);
+    }
+    if !reads {
+        write_record(after);
+    }
+}
+
+// A command that only reads changes no device, whatever it answers.
+fn write_changes(refused: bool, same: bool, clean: bool, reads: bool) {
+    let kept = same & clean;
+    if refused & kept {
+        write(b", nothing changed");
+    }
+    if refused & !kept | reads & !same {
+        write(b", CHANGED");
+    }
+    write(b"\n");
+}
+
+fn with_device(bench: Bench, device: Device) -> Bench {
+    let mut after = bench;
+    after.device = device;
+    after
+}
+
+fn finish(
+    bench: Bench,
+    answer: u8,
+    after: Device,
+    reads: bool,
+    clean: bool,
+    shown: &[u8],
+) -> Bench {
+    write_answer(answer);
+    if answer == 0 {
+        write_given(after, reads, shown);
+    }
+    write_changes(answer != 0, same_device(bench.device, after), clean, reads);
+    with_device(bench, after)
+}
+
+// Of a command that gives a number.
+fn finish_number(bench: Bench, answer: u8, after: Device, given: u8) -> Bench {
+    write_answer(answer);
+    write_number(b", gives ", given as u64);
+    write_changes(answer != 0, same_device(bench.device, after), true, true);
+    with_device(bench, after)
+}
+
+// Of a command that has no output besides the device.
+fn finish_change(bench: Bench, reply: Reply) -> Bench {
+    finish(bench, reply.answer, reply.device, false, true, &NOTHING)
+}
+
+// ---- random numbers, status and identity
+
+fn extend_seed(bench: Bench, size: u64) -> Bench {
+    finish_change(
+        bench,
+        commands::extend_seed(bench.device, front(&ENTROPY, size)),
+    )
+}
+
+fn rnd(bench: Bench, size: u64) -> Bench {
+    let mut room = [FILLER; 32];
+    let output = front_mut(&mut room, size);
+    let reply = commands::rnd(bench.device, output);
+    finish(
+        bench,
+        reply.answer,
+        reply.device,
+        false,
+        is_filler(output),
+        output,
+    )
+}
+
+fn get_status(bench: Bench) -> Bench {
+    let status = commands::get_status(bench.device);
+    finish_number(bench, status.answer, status.device, status.status)
+}
+
+fn get_id(bench: Bench, size: u64, room: u64) -> Bench {
+    let mut buffer = [FILLER; 48];
+    let output = front_mut(&mut buffer, room);
+    let reply = commands::get_id(bench.device, front(&[TEXT; 32], size), output);
+    finish(
+        bench,
+        reply.answer,
+        reply.device,
+        true,
+        is_filler(output),
+        output,
+    )
+}
+
+// ---- ciphers and MACs
+
+fn replied(device: Device, command: u8, n: [u64; 12], text: &[u8], output: &mut [u8]) -> Reply {
+    let slot = byte_of(n[0]);
+    let input = front(text, n[1]);
+    match command {
+        ENC_ECB => commands::enc_ecb(device, slot, input, output),
+        DEC_ECB => commands::dec_ecb(device, slot, input, output),
+        ENC_CBC => commands::enc_cbc(device, slot, front(text, n[3]), input, output),
+        DEC_CBC => commands::dec_cbc(device, slot, front(text, n[3]), input, output),
+        _ => commands::generate_mac(device, slot, n[3], input, output),
+    }
+}
+
+fn tried(device: Device, command: u8, n: [u64; 12]) -> Used {
+    let mut room = [FILLER; ROOM];
+    let output = front_mut(&mut room, n[2]);
+    let reply = replied(device, command, n, &[TEXT; ROOM], output);
+    let after = reply.device;
+    Used {
+        answer: reply.answer,
+        device: after,
+        clean: is_filler(output),
+        block: device::block_at(last_block(output), 0),
+    }
+}
+
+fn use_slot(bench: Bench, command: u8, n: [u64; 12]) -> Bench {
+    let used = tried(bench.device, command, n);
+    let block = used.block;
+    let mut after = bench;
+    after.block = block;
+    finish(after, used.answer, used.device, true, used.clean, &block)
+}
+
+// The text, or a block with more after it, with a bit changed.
+fn text_with(bit: u64) -> [u8; ROOM] {
+    let mut text = [TEXT; ROOM];
+    flip(&mut text, bit);
+    text
+}
+
+fn block_with(block: [u8; 16], bit: u64) -> [u8; 32] {
+    let mut changed = [TEXT; 32];
+    put(&mut changed, 0, &block);
+    flip(&mut changed, bit);
+    changed
+}
+
+fn verified(device: Device, block: [u8; 16], n: [u64; 12]) -> Verdict {
+    let message = text_with(n[6]);
+    let mac = block_with(block, n[5]);
+    commands::verify_mac(
+        device,
+        byte_of(n[0]),
+        n[3],
+        front(&message, n[1]),
+        front(&mac, n[2]),
+        byte_of(n[4]),
+    )
+}
+
+fn verify_mac(bench: Bench, n: [u64; 12]) -> Bench {
+    let block = bench.block;
+    let verdict = verified(bench.device, block, n);
+    finish_number(bench, verdict.answer, verdict.device, verdict.verdict)
+}
+
+fn write_role(answer: u8, kept: bool) {
+    write_number(b" ", answer as u64);
+    if !kept {
+        write(b" CHANGED");
+    }
+}
+
+fn role(device: Device, command: u8, n: [u64; 12]) {
+    let used = tried(device, command, n);
+    let clean = used.clean | (used.answer == 0);
+    write_role(used.answer, clean & same_device(device, used.device));
+}
+
+fn cipher_roles(device: Device, n: [u64; 12]) {
+    let mut command: u8 = 0;
+    while command < VERIFY_MAC {
+        role(device, command, n);
+        command += 1;
+    }
+}
+
+fn roles_of(device: Device, slot: u8) {
+    let mut n = given(slot, 16, 16, 16);
+    n[4] = 0;
+    write_number(b"slot ", slot as u64);
+    cipher_roles(device, n);
+    let verdict = verified(device, [TEXT; 16], n);
+    write_role(verdict.answer, same_device(device, verdict.device));
+    write(b"\n");
+}
+
+fn roles(device: Device, to: u8) {
+    let mut slot: u8 = 0;
+    while slot < to {
+        roles_of(device, slot);
+        slot += 1;
+    }
+}
+
+// ---- key messages
+
+// The key that the cases give to a slot: one of unlike bytes, and another for each.
+fn slot_key(slot: u8) -> [u8; 16] {
+    aes::encrypt(device::block_at(&SEED, 0), [slot; 16])
+}
+
+// The key under which the sender writes. It knows whether the authority is still empty.
+fn sender_key(device: Device, authority: u8) -> [u8; 16] {
+    if device::is_empty(device, authority) {
+        return [0xff; 16];
+    }
+    if authority == device::SECRET_KEY {
+        return device::block_at(&SECRET, 0);
+    }
+    slot_key(authority)
+}
+
+fn uid_of(number: u64) -> [u8; 16] {
+    match number {
+        0 => [0; 16],
+        2 => OTHER_UID,
+        _ => UID,
+    }
+}
+
+// 28 bits of counter, five flags, and zeros.
+fn first_block(counter: u64, flags: u64) -> [u8; 16] {
+    let top = counter % 0x10000000 * 16 + flags % 32 / 2;
+    let mut block = [0u8; 16];
+    put(&mut block, 0, &bytes_of(top as u32));
+    block[4] = (flags % 2 * 128) as u8;
+    block
+}
+
+// M2.
+fn enciphered(secret: [u8; 16], first: [u8; 16], key: [u8; 16]) -> [u8; 32] {
+    let k1 = modes::derive(secret, Constant::KeyUpdateEnc);
+    let mut clear = [0u8; 32];
+    put(&mut clear, 0, &first);
+    put(&mut clear, 16, &key);
+    let mut m2 = [0u8; 32];
+    modes::cbc_encrypt(&k1, &[0u8; 16], &clear, &mut m2);
+    m2
+}
+
+// M3.
+fn signature(secret: [u8; 16], messages: [u8; 112]) -> [u8; 16] {
+    let k2 = modes::derive(secret, Constant::KeyUpdateMac);
+    let mut m3 = [0u8; 16];
+    modes::cmac(&k2, 384, front(&messages, 48), &mut m3);
+    m3
+}
+
+// Messages with a part of 16 or 32 bytes put into its place.
+fn with_block(messages: [u8; 112], at: usize, part: [u8; 16]) -> [u8; 112] {
+    let mut after = messages;
+    put(&mut after, at, &part);
+    after
+}
+
+fn with_two_blocks(messages: [u8; 112], at: usize, part: [u8; 32]) -> [u8; 112] {
+    let mut after = messages;
+    put(&mut after, at, &part);
+    after
+}
+
+// M1 to M3, by hand: the writer of key messages would refuse some of them.
+fn sealed(secret: [u8; 16], m1: [u8; 16], m2: [u8; 32]) -> [u8; 112] {
+    let signed = with_two_blocks(with_block([0; 112], 0, m1), 16, m2);
+    with_block(signed, 48, signature(secret, signed))
+}
+
+fn written(device: Device, n: [u64; 12]) -> [u8; 112] {
+    let target = byte_of(n[0]) % 16;
+    let authority = byte_of(n[1]) % 16;
+    let secret = sender_key(device, authority);
+    let mut first = first_block(n[2], n[3]);
+    flip(&mut first, n[5]);
+    let m2 = enciphered(secret, first, slot_key(target));
+    let mut m1 = uid_of(n[4]);
+    m1[15] = 16 * target + authority;
+    sealed(secret, m1, m2)
+}
+
+// ---- LOAD_KEY
+
+// The first n bytes of a part, or all of it.
+fn part(messages: &[u8], from: usize, size: u64, n: u64) -> &[u8] {
+    front(front(rest(messages, from), size), n)
+}
+
+fn load_reply(
+    device: Device,
+    messages: &[u8],
+    n: [u64; 12],
+    m4: &mut [u8],
+    m5: &mut [u8],
+) -> Reply {
+    let m1 = part(messages, 0, 16, n[7]);
+    let m2 = part(messages, 16, 32, n[8]);
+    let m3 = part(messages, 48, 16, n[9]);
+    load::load_key(device, m1, m2, m3, m4, m5)
+}
+
+fn loaded(device: Device, messages: [u8; 112], n: [u64; 12]) -> Left {
+    let mut m4 = [FILLER; 32];
+    let mut m5 = [FILLER; 16];
+    let reply = load_reply(
+        device,
+        &messages,
+        n,
+        front_mut(&mut m4, n[10]),
+        front_mut(&mut m5, n[11]),
+    );
+    let after = reply.device;
+    Left {
+        answer: reply.answer,
+        device: after,
+        messages: with_block(with_two_blocks(messages, 64, m4), 96, m5),
+    }
+}
+
+// With what the command put out from a place in M1 to M5 on.
+fn finish_messages(bench: Bench, left: Left, from: usize, reads: bool) -> Bench {
+    let messages = left.messages;
+    let mut after = bench;
+    after.messages = messages;
+    let shown = rest(&messages, from);
+    finish(
+        after,
+        left.answer,
+        left.device,
+        reads,
+        is_filler(shown),
+        shown,
+    )
+}
+
+fn load_key(bench: Bench, n: [u64; 12]) -> Bench {
+    let mut messages = bench.messages;
+    if n[0] != ABSENT {
+        messages = written(bench.device, n);
+        flip(&mut messages, n[6]);
+    }
+    finish_messages(bench, loaded(bench.device, messages, n), 64, false)
+}
+
+fn write_where_taken(device: Device, slots: u8) {
+    let n = given(
+        message::target_of(slots),
+        message::authority_of(slots) as u64,
+        2,
+        0,
+    );
+    let left = loaded(device, written(device, n), n);
+    if left.answer == 0 {
+        write(b" ");
+        write_byte(slots);
+    }
+}
+
+fn pairs(device: Device) {
+    let mut slots: u64 = 0;
+    while slots < 256 {
+        write_where_taken(device, byte_of(slots));
+        slots += 1;
+    }
+}
+
+fn write_pairs(device: Device) {
+    pairs(device);
+    write(b"\n");
+}
+
+// ---- EXPORT_RAM_KEY
+
+fn exported(device: Device, n: [u64; 12]) -> Left {
+    let mut m1 = [FILLER; 16];
+    let mut m2 = [FILLER; 32];
+    let mut m3 = [FILLER; 16];
+    let mut m4 = [FILLER; 32];
+    let mut m5 = [FILLER; 16];
+    let reply = load::export_ram_key(
+        device,
+        front_mut(&mut m1, n[0]),
+        front_mut(&mut m2, n[1]),
+        front_mut(&mut m3, n[2]),
+        front_mut(&mut m4, n[3]),
+        front_mut(&mut m5, n[4]),
+    );
+    let signed = with_two_blocks(with_block([0; 112], 0, m1), 16, m2);
+    let sealed = with_block(signed, 48, m3);
+    let after = reply.device;
+    Left {
+        answer: reply.answer,
+        device: after,
+        messages: with_block(with_two_blocks(sealed, 64, m4), 96, m5),
+    }
+}
+
+// ---- devices
+
+fn made(n: [u64; 12]) -> Reply {
+    let mut secret = SECRET;
+    flip(&mut secret, n[4]);
+    commands::make(
+        front(&uid_of(n[0]), n[1]),
+        front(&secret, n[2]),
+        front(&SEED, n[3]),
+    )
+}
+
+fn make(bench: Bench, n: [u64; 12]) -> Bench {
+    let reply = made(n);
+    write_answer(reply.answer);
+    write_record(reply.device);
+    write(b"\n");
+    with_device(bench, reply.device)
+}
+
+fn with_key(device: Device, slot: u8, flags: u64) -> Device {
+    let n = given(slot, 1, 1, flags);
+    let left = loaded(device, written(device, n), n);
+    left.device
+}
+
+fn prepared(last: u8, flags: u64) -> Device {
+    let reply = made(given(1, 15, 16, 16));
+    let mut device = reply.device;
+    let mut slot: u8 = 0;
+    while slot < last {
+        slot += 1;
+        device = with_key(device, slot, flags);
+    }
+    device
+}
+
+fn load_plain_key(bench: Bench, slot: u64, size: u64) -> Bench {
+    let key = block_with(slot_key(byte_of(slot)), ABSENT);
+    finish_change(
+        bench,
+        commands::load_plain_key(bench.device, front(&key, size)),
+    )
+}
+
+fn with_slot_field(device: Device, field: u64, at: usize, value: u64) -> Device {
+    let slot = at % 15;
+    let mut after = device;
+    match field {
+        1 => after.counters[slot] = (value % 0x100000000) as u32,
+        2 => after.flags[slot] = byte_of(value),
+        3 => after.empty[slot] = byte_of(value),
+        _ => after.uid[slot] = byte_of(value),
+    }
+    after
+}
+
+fn with_block_field(device: Device, field: u64, at: usize, value: u8) -> Device {
+    let mut after = device;
+    match field {
+        0 => after.keys[at % 240] = value,
+        6 => after.state[at % 16] = value,
+        _ => after.rngkey[at % 16] = value,
+    }
+    after
+}
+
+fn with_mark(device: Device, field: u64, value: u8) -> Device {
+    let mut after = device;
+    match field {
+        8 => after.rng = value,
+        9 => after.plain = value,
+        10 => after.debugger = value,
+        _ => after.made = value,
+    }
+    after
+}
+
+fn with_field(device: Device, field: u64, at: u64, value: u64) -> Device {
+    match field {
+        1..=4 => with_slot_field(device, field, at as usize, value),
+        0 | 6..=7 => with_block_field(device, field, at as usize, byte_of(value)),
+        _ => with_mark(device, field, byte_of(value)),
+    }
+}
+
+// ---- lines
+
+// A line that shows something of the device.
+fn show(device: Device, command: u8, n: [u64; 12]) {
+    match command {
+        RECORD => write_rows(device, byte_of(n[0]), byte_of(n[1])),
+        ROLES => roles(device, byte_of(n[0])),
+        PAIRS => write_pairs(device),
+        _ => write(b"no such command\n"),
+    }
+}
+
+// A line that is no command of the device.
+fn run_other(bench: Bench, command: u8, n: [u64; 12]) -> Bench {
+    write(b"\n");
+    match command {
+        DEVICE => with_device(bench, prepared(byte_of(n[0]), n[1])),
+        SET => with_device(bench, with_field(bench.device, n[0], n[1], n[2])),
+        _ => {
+            show(bench.device, command, n);
+            bench
+        }
+    }
+}
+
+fn run_change(bench: Bench, command: u8) -> Bench {
+    match command {
+        RESET => finish_change(bench, commands::reset(bench.device)),
+        DEBUGGER => finish_change(bench, commands::attach_debugger(bench.device)),
+        _ => finish_change(bench, commands::init_rng(bench.device)),
+    }
+}
+
+fn run_command(bench: Bench, command: u8, n: [u64; 12]) -> Bench {
+    match command {
+        0..=4 => use_slot(bench, command, n),
+        VERIFY_MAC => verify_mac(bench, n),
+        6..=8 => run_change(bench, command),
+        GET_STATUS => get_status(bench),
+        EXTEND_SEED => extend_seed(bench, n[0]),
+        RND => rnd(bench, n[0]),
+        LOAD_PLAIN_KEY => load_plain_key(bench, n[0], n[1]),
+        GET_ID => get_id(bench, n[0], n[1]),
+        LOAD_KEY => load_key(bench, n),
+        EXPORT_RAM_KEY => finish_messages(bench, exported(bench.device, n), 0, true),
+        MAKE => make(bench, n),
+        _ => run_other(bench, command, n),
+    }
+}
+
+fn no_command(bench: Bench) -> Bench {
+    write(b"\n");
+    bench
+}
+
+fn run_line(bench: Bench, line: &[u8]) -> Bench {
+    write(line);
+    match device::byte_at(line, 0) {
+        0 | b'#' => no_command(bench),
+        _ => run_command(bench, command_of(line), numbers_of(line)),
+    }
+}
+
+// Where the line that starts at `from` ends.
+fn line_end(text: &[u8], from: usize) -> usize
+    requires { ⌜ from ≤ length (now text) ⌝ }
+    ensures { λ r. ⌜ (from ≤ r) × (r ≤ length (now (text .entry))) ⌝ }
+{
+    let mut i = from;
+    while i < text.len() && text[i] != b'\n' {
+        i += 1;
+    }
+    i
+}
+
+fn run(text: &[u8]) {
+    let mut bench = Bench {
+        device: device::blank(),
+        messages: [0; 112],
+        block: [0; 16],
+    };
+    let mut at: usize = 0;
+    while at < text.len() {
+        let end = line_end(text, at);
+        bench = run_line(bench, &text[at..end]);
+        at = end + 1;
+    }
+}
+
+fn main() {
+    let mut input = io::large_buffer();
+    let n = io::read_full(STDIN_FILENO, &mut input);
+    run(&input[..n]);
+}
