@@ -29,9 +29,11 @@ uint8_t bench_write_key(const uint8_t *uid, size_t uid_len, uint8_t target, uint
                         uint32_t counter, uint8_t flags, const uint8_t *new_key, size_t new_key_len, uint8_t *m1, size_t m1_len,
                         uint8_t *m2, size_t m2_len, uint8_t *m3, size_t m3_len);
 
-uint8_t bench_status(const uint8_t *uid, size_t uid_len, const uint8_t *secret, size_t secret_len, const uint8_t *seed, size_t seed_len);
-uint8_t bench_plain_key(const uint8_t *uid, size_t uid_len, const uint8_t *secret, size_t secret_len, const uint8_t *seed, size_t seed_len,
-                        const uint8_t *plain_key, size_t plain_key_len, const uint8_t *in, size_t in_len, uint8_t *out, size_t out_len);
+uint8_t bench_status(const uint8_t *uid, size_t uid_len, const uint8_t *secret, size_t secret_len, const uint8_t *seed,
+                     size_t seed_len);
+uint8_t bench_plain_key(const uint8_t *uid, size_t uid_len, const uint8_t *secret, size_t secret_len, const uint8_t *seed,
+                        size_t seed_len, const uint8_t *plain_key, size_t plain_key_len, const uint8_t *in, size_t in_len,
+                        uint8_t *out, size_t out_len);
 
 static uint8_t key[16], iv[16], text[16 * BLOCKS], other_text[16 * BLOCKS], schedule[176], mac[16];
 static br_aes_small_cbcenc_keys small_enc;
@@ -337,7 +339,8 @@ static void check(void)
         aes_ecb_decrypt(block, cipher, &tom);
         must_agree("decrypt, libtomcrypt", cipher, other);
         uid[0] = (uint8_t)(1 + i % 255);
-        if (bench_status(uid, 15, key, 16, block, 16) != 0 || bench_plain_key(uid, 15, block, 16, block, 16, key, 16, block, 16, other, 16) != 0) {
+        if (bench_status(uid, 15, key, 16, block, 16) != 0
+            || bench_plain_key(uid, 15, block, 16, block, 16, key, 16, block, 16, other, 16) != 0) {
             fprintf(stderr, "bench: a command is refused\n");
             exit(1);
         }
@@ -391,7 +394,7 @@ int main(void)
            best[CMAC][OURS] / best[ENCRYPT][OURS]);
     printf("ours, a key message against its 10 blocks and 6 key schedules: %.3f\n",
            best[MESSAGE][OURS] / (10 * best[ENCRYPT][OURS] + 6 * best[SCHEDULE][OURS]));
-    printf("ours, commands besides their cryptography, nanoseconds: making and GET_STATUS %.1f; making, LOAD_PLAIN_KEY and ENC_ECB %.1f\n", status,
-           plain_key - best[KEYED][OURS]);
+    printf("ours, commands besides their cryptography: making and GET_STATUS %.1f; making, LOAD_PLAIN_KEY and ENC_ECB %.1f\n",
+           status, plain_key - best[KEYED][OURS]);
     return 0;
 }

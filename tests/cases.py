@@ -266,7 +266,7 @@ def with_byte(data, at, value):
 
 
 MARKS = {8: "initialised", 9: "plain", 10: "debugger", 11: "made"}
-BLOCKS = {4: "uid", 6: "state", 7: "random_key"}
+BLOCKS = {4: "uid", 5: "seed", 6: "state", 7: "random_key"}
 
 
 def damage(bench, n):
@@ -278,7 +278,7 @@ def damage(bench, n):
     elif field in BLOCKS:
         setattr(device, BLOCKS[field], with_byte(getattr(device, BLOCKS[field]), at, value))
     elif field == 0:
-        slot = device.slots[at // 16]
+        slot = device.slots[at // 16 % 15]
         slot.key = with_byte(slot.key, at % 16, value)
     elif field == 1:
         device.slots[at].counter = value

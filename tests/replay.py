@@ -1,6 +1,7 @@
-"""Random days of a device: plays the same lines on the proved program `cases` and on the second program, and compares what they write.
+"""Random days of a device: plays the same lines on the proved program `cases` and on the second one, and compares what they write.
 
-replay.py COMMAND..: COMMAND runs the program, which reads lines and writes lines. The seed is fixed, so that a run can be had again.
+replay.py COMMAND..: COMMAND runs the program, which reads lines and writes lines. The seed is fixed, so that a run can be had
+again.
 """
 
 import pathlib
@@ -9,7 +10,8 @@ import subprocess
 import sys
 
 DAYS, LINES, SEED = 8, 700, 20481
-PAIRS = [(1, 1), (2, 1), (2, 2), (3, 1), (3, 2), (14, 0)] + [(n, by) for n in range(4, 14) for by in (1, n)] + [(14, n) for n in range(4, 14)]
+PAIRS = [(1, 1), (2, 1), (2, 2), (3, 1), (3, 2), (14, 0)]
+PAIRS += [(n, 1) for n in range(4, 14)] + [(n, n) for n in range(4, 14)] + [(14, n) for n in range(4, 14)]
 NONE = 999  # a bit that no text has, or a length that stands for all of a buffer
 
 
@@ -43,10 +45,8 @@ def mac(rng):
     edge = rng.choice([NONE, NONE, compared, (compared or 128) - 1, rng.randrange(128)])
     late = rng.choice([NONE, NONE, bits, max(bits, 1) - 1])
     by = rng.choice([number, number, number, slot(rng)])
-    return (
-        f"{made}\nVERIFY_MAC with slot {by}, {length(rng, size)} bytes, MAC of {length(rng, 16)}, {bits} bits, MAC length {compared}, "
-        f"bit {edge} changed, bit {late} of the message"
-    )
+    asked = f"VERIFY_MAC with slot {by}, {length(rng, size)} bytes, MAC of {length(rng, 16)}, {bits} bits, MAC length {compared}"
+    return f"{made}\n{asked}, bit {edge} changed, bit {late} of the message"
 
 
 def load(rng):
@@ -58,7 +58,8 @@ def load(rng):
     uid = rng.choice([1, 1, 1, 0, 0, 2])
     first, sent = (rng.choice([NONE, NONE, NONE, NONE, rng.randrange(128)]) for _ in range(2))
     sizes = " ".join(str(length(rng, size)) for size in (16, 32, 16, 32, 16)) if rng.random() < 0.2 else ""
-    return f"LOAD_KEY {target} by {authority}, counter {counter}, flags {flags}, UID {uid}, bits {first} and {sent} changed {sizes}".strip()
+    asked = f"LOAD_KEY {target} by {authority}, counter {counter}, flags {flags}, UID {uid}"
+    return f"{asked}, bits {first} and {sent} changed {sizes}".strip()
 
 
 def line(rng):
@@ -91,21 +92,25 @@ def day(rng):
     return "".join(text + "\n" for text in lines)
 
 
+def written(command, script):
+    return subprocess.run(command, input=script, stdout=subprocess.PIPE, check=True, text=True).stdout.splitlines()
+
+
 def main():
     rng = random.Random(SEED)
     account = [sys.executable, str(pathlib.Path(__file__).with_name("cases.py"))]
     compared, answers = 0, {}
     for number in range(DAYS):
-        script = day(rng).encode()
-        theirs, ours = (subprocess.run(command, input=script, stdout=subprocess.PIPE, check=True).stdout.splitlines() for command in (account, sys.argv[1:]))
+        script = day(rng)
+        theirs, ours = written(account, script), written(sys.argv[1:], script)
         for a, b in zip(theirs, ours):
             if a != b:
-                sys.exit(f"replay: day {number} of seed {SEED}:\n  the second program: {a.decode()}\n  the first program:  {b.decode()}")
+                sys.exit(f"replay: day {number} of seed {SEED}:\n  second: {a}\n  first:  {b}")
         if len(theirs) != len(ours):
             sys.exit(f"replay: day {number} of seed {SEED}: {len(theirs)} and {len(ours)} lines")
         compared += len(ours)
         for text in ours:
-            answer = text.split(b": ")[-1].split(b" ")[0].decode()
+            answer = text.split(": ")[-1].split(" ")[0]
             answers[answer] = answers.get(answer, 0) + 1
     told = ", ".join(f"{answers[key]} of {key}" for key in sorted(answers, key=lambda key: key.zfill(2)) if key.isdigit())
     print(f"replay: {compared} lines of seed {SEED}, all alike; answers: {told}")

@@ -1,30 +1,30 @@
-// Plays cases of the device: reads lines, does what each one says, and writes it with what came of it.
+// Plays cases of the device: reads lines, does what each says, and writes it with what came of it. So a case is added as data.
 //
 // Nothing here knows what a call should answer. What the program must write is in the file stdout, which a second program has
-// written from the same lines. An answer of 0 is followed by what the command put out and, where it may change the device, by
-// one block made of the whole record; after any other stands whether the device and the lent buffers are as they were.
+// written from the same lines. After an answer of 0 stands what the command put out and, where it may change the device, one
+// block made of the whole record; after any other stands whether the device and the lent buffers are as they were.
 //
-// A line is a name and numbers in an order; the other words are for the reader. A number that is left out is larger than any, and
-// a length that is larger than a buffer stands for all of it. Lines that start with # are headings. There is one device, which
-// each line leaves to the next. The names, and their numbers:
+// A line is a name and up to twelve numbers; the words between them are for the reader, and have no digits. A number that is left
+// out is larger than any, and a length that is larger than a buffer stands for all of it. A line that starts with # is a heading.
+// There is one device, which each line leaves to the next. The names, with their numbers:
 //
 //     MAKE uid, its length, of SECRET_KEY, of the seed, a bit of SECRET_KEY that is changed
 //     DEVICE last, flags                   makes the device, and loads slots 1 to the last by slot 1 with counter 1
-//     SET field, place, value              damages the record, whose fields are counted from 0
-//     RECORD from, to                      these rows of the record, the last left out
+//     SET field, place, value              changes a byte or a counter of the record, whose fields are counted from 0
+//     RECORD from, to                      these of the record's 35 rows, the last left out
 //     RESET, DEBUGGER, INIT_RNG, GET_STATUS
 //     EXTEND_SEED length
 //     RND length
-//     LOAD_PLAIN_KEY slot, length          the key of a slot
+//     LOAD_PLAIN_KEY slot, length          with the key of a slot
 //     GET_ID length in, out
 //     ENC_ECB slot, length in, out         and DEC_ECB
 //     ENC_CBC slot, length in, out, IV     and DEC_CBC; the last block is shown
 //     GENERATE_MAC slot, length in, out, bits
 //     VERIFY_MAC slot, length in, of the MAC, bits, MAC length, a bit of the MAC and one of the message that are changed
-//     ROLES to                             the answers of these six in this order, by slot
+//     ROLES to                             the answers of these six, in this order, for the slots below
 //     LOAD_KEY target, authority, counter, flags, uid, a bit of the first block and one of the messages that are changed, and
 //                                          the lengths of M1 to M5; with no number the last messages again
-//     PAIRS                                the slot bytes that LOAD_KEY takes
+//     PAIRS                                the slot bytes of M1 that LOAD_KEY takes
 //     EXPORT_RAM_KEY lengths of M1 to M5
 //
 // The key of a slot is made of its number. UID 0 is the wildcard, 1 the device's own, 2 another. VERIFY_MAC takes the block that
@@ -274,10 +274,6 @@ fn command_of(line: &[u8]) -> u8 {
     number
 }
 
-fn is_digit(c: u8) -> bool {
-    (b'0' <= c) & (c <= b'9')
-}
-
 fn with_digit(value: u64, digit: u8) -> u64 {
     let units = (digit % 16) as u64;
     if value < 0x1999999999999998 {
@@ -290,7 +286,7 @@ fn with_digit(value: u64, digit: u8) -> u64 {
 fn with_character(before: Numbers, c: u8) -> Numbers {
     let at = before.count % 12;
     let mut after = before;
-    after.inside = is_digit(c);
+    after.inside = (b'0' <= c) & (c <= b'9');
     if after.inside {
         after.n[at] = with_digit(before.n[at], c);
     } else if before.inside {
@@ -666,12 +662,13 @@ fn uid_of(number: u64) -> [u8; 16] {
     }
 }
 
-// 28 bits of counter, five flags, and zeros.
-fn first_block(counter: u64, flags: u64) -> [u8; 16] {
+// 28 bits of counter, five flags, and zeros, with a bit changed.
+fn first_block(counter: u64, flags: u64, bit: u64) -> [u8; 16] {
     let top = counter % 0x10000000 * 16 + flags % 32 / 2;
     let mut block = [0u8; 16];
     put(&mut block, 0, &bytes_of(top as u32));
     block[4] = (flags % 2 * 128) as u8;
+    flip(&mut block, bit);
     block
 }
 
@@ -713,12 +710,12 @@ fn sealed(secret: [u8; 16], m1: [u8; 16], m2: [u8; 32]) -> [u8; 112] {
     with_block(signed, 48, signature(secret, signed))
 }
 
+// The messages that a line asks for, without a bit of them changed.
 fn written(device: Device, n: [u64; 12]) -> [u8; 112] {
     let target = byte_of(n[0]) % 16;
     let authority = byte_of(n[1]) % 16;
     let secret = sender_key(device, authority);
-    let mut first = first_block(n[2], n[3]);
-    flip(&mut first, n[5]);
+    let first = first_block(n[2], n[3], n[5]);
     let m2 = enciphered(secret, first, slot_key(target));
     let mut m1 = uid_of(n[4]);
     m1[15] = 16 * target + authority;
@@ -763,7 +760,7 @@ fn loaded(device: Device, messages: [u8; 112], n: [u64; 12]) -> Left {
     }
 }
 
-// With what the command put out from a place in M1 to M5 on.
+// What the command put out begins at a place in M1 to M5.
 fn finish_messages(bench: Bench, left: Left, from: usize, reads: bool) -> Bench {
     let messages = left.messages;
     let mut after = bench;
@@ -886,6 +883,7 @@ fn load_plain_key(bench: Bench, slot: u64, size: u64) -> Bench {
     )
 }
 
+// The record with one byte or counter changed. A place past the end of a field is counted from its front again.
 fn with_slot_field(device: Device, field: u64, at: usize, value: u64) -> Device {
     let slot = at % 15;
     let mut after = device;
@@ -902,6 +900,7 @@ fn with_block_field(device: Device, field: u64, at: usize, value: u8) -> Device 
     let mut after = device;
     match field {
         0 => after.keys[at % 240] = value,
+        5 => after.seed[at % 16] = value,
         6 => after.state[at % 16] = value,
         _ => after.rngkey[at % 16] = value,
     }
@@ -922,7 +921,7 @@ fn with_mark(device: Device, field: u64, value: u8) -> Device {
 fn with_field(device: Device, field: u64, at: u64, value: u64) -> Device {
     match field {
         1..=4 => with_slot_field(device, field, at as usize, value),
-        0 | 6..=7 => with_block_field(device, field, at as usize, byte_of(value)),
+        0 | 5..=7 => with_block_field(device, field, at as usize, byte_of(value)),
         _ => with_mark(device, field, byte_of(value)),
     }
 }
@@ -962,9 +961,9 @@ fn run_change(bench: Bench, command: u8) -> Bench {
 
 fn run_command(bench: Bench, command: u8, n: [u64; 12]) -> Bench {
     match command {
-        0..=4 => use_slot(bench, command, n),
+        ENC_ECB..=GENERATE_MAC => use_slot(bench, command, n),
         VERIFY_MAC => verify_mac(bench, n),
-        6..=8 => run_change(bench, command),
+        RESET..=INIT_RNG => run_change(bench, command),
         GET_STATUS => get_status(bench),
         EXTEND_SEED => extend_seed(bench, n[0]),
         RND => rnd(bench, n[0]),

@@ -2,13 +2,11 @@
 -- Assumes nothing.
 use Prim.Native.Nat.{_-_, _≤_}
 use borrow.Author.Needs.{needs}
-use lib.ListN.{length}
-use mathlib.Core.Path.{_≡_}
 use Rattle.cases.proofs.slots_image.Statement.{statement}
 use Rattle.cases.proofs.slots_image.Tie as tie
 
 abbrev Inv-loop : tie.InvT-loop
-Inv-loop device image₀ slot₀ image slot = (slot ≤ 15) × (length image ≡ 560)
+Inv-loop device image₀ slot₀ image slot = slot ≤ 15
 
 abbrev μ-loop : tie.MeasureT-loop
 μ-loop device image₀ slot₀ image slot = 15 - slot
