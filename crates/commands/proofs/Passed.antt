@@ -1,32 +1,26 @@
 -- What an answer of 0 tells, and a routine under a key once its lengths are right.
 -- Assumes nothing.
 use mathlib.Core.Path.{_≡_, sym, ap, _∙_}
-use mathlib.Core.Bool.{Bool, true, not}
+use mathlib.Core.Bool.{Bool, true}
 use mathlib.Core.List.{List, [], _∷_}
 use Prim.Native.Nat.{ℕ}
-use native.Mathlib.Omega.{arith}
-use borrow.Author.Tests.{not-false}
 use lib.ListN.{length}
 use Rattle.modes.specs.Answer as modes
 use Rattle.modes.proofs.Lent.{succeeded}
 use Rattle.message.specs.declared.Role.{Role}
-use Rattle.message.proofs.Faults.{no-fault}
-use Rattle.device.specs.Made.{made}
 use Rattle.device.specs.Outcome.{outcome, done, decided}
 use Rattle.device.specs.Record.{keyAt}
 use Rattle.device.specs.declared.Device.{Device}
-use Rattle.device.proofs.Outcome.{is-refused, is-done}
+use Rattle.device.proofs.Outcome.{is-refused, is-done, made-and-long}
 use Rattle.commands.specs.Checks.{useAnswer, otherAnswer}
 
 pub use-lengths : (d : Device) (lengths : Bool) (slot : ℕ) (role : Role) → useAnswer d lengths slot role ≡ 0 → lengths ≡ true
 unfolding useAnswer
-use-lengths d lengths slot role e =
-    not-false lengths (no-fault (not lengths) 12 _ (λ z. omega arith) (no-fault (not (made d)) 12 _ (λ z. omega arith) e .1) .0)
+use-lengths d lengths slot role e = made-and-long d lengths _ e .1
 
 pub other-lengths : (d : Device) (lengths : Bool) (own : List (Bool × ℕ)) → otherAnswer d lengths own ≡ 0 → lengths ≡ true
 unfolding otherAnswer
-other-lengths d lengths own e =
-    not-false lengths (no-fault (not lengths) 12 _ (λ z. omega arith) (no-fault (not (made d)) 12 _ (λ z. omega arith) e .1) .0)
+other-lengths d lengths own e = made-and-long d lengths _ e .1
 
 -- the key comes as an array of 16 bytes
 pub keyed : (test : ℕ → Bool) (f : List ℕ → List ℕ) (key own before after : List ℕ) → length key ≡ 16 → key ≡ own → test 16 ≡ true

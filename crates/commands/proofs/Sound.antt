@@ -25,7 +25,7 @@ use Rattle.device.specs.Rules.{kept}
 use Rattle.device.specs.declared.Device.{Device}
 use Rattle.device.specs.declared.Slot.{Slot}
 use Rattle.device.proofs.Made.{Made, facts, is-made, debugger-set, random-set, made-ready, slot-set, empty-there, empty-elsewhere, fresh-sound}
-use Rattle.device.proofs.Outcome.{is-done, either-way, same-answer}
+use Rattle.device.proofs.Outcome.{is-done, either-way, same-answer, made-and-long}
 use Rattle.device.proofs.Slots.{put-fits, shape-kept}
 use Rattle.commands.specs.Checks.{otherAnswer}
 use Rattle.commands.specs.Commands.{makeAnswer, make, reset, attachDebugger, encEcb, decEcb, encCbc, decCbc, generateMac, verifyMac, loadPlainKey, initRng, extendSeed, rnd, getStatus, getId}
@@ -46,8 +46,7 @@ make-sound uid secret seed small h =
 is-initialised : (d : Device) (lengths : Bool) → otherAnswer d lengths ((not (isOn (d .rng)), rngSeed) ∷ []) ≡ 0 → isOn (d .rng) ≡ true
 unfolding otherAnswer
 is-initialised d lengths e =
-    let two = no-fault (not lengths) 12 _ (λ z. omega arith) (no-fault (not (made d)) 12 _ (λ z. omega arith) e .1) in
-    not-false _ (no-fault (not (isOn (d .rng))) 8 0 (λ z. omega arith) (two .1) .0)
+    not-false _ (no-fault (not (isOn (d .rng))) 8 0 (λ z. omega arith) (made-and-long d lengths _ e .2) .0)
 
 module _ (d : Device) (sound : Sound d) where
   fact : Made d

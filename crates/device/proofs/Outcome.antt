@@ -1,11 +1,15 @@
--- The two outcomes of a command, from the answer that it found: refused, and done.
+-- The two outcomes of a command, from the answer that it found: refused, and done; and the checks that all commands begin with.
 -- Assumes nothing.
 use mathlib.Core.Path.{_≡_, refl, sym, ap, _∙_}
-use mathlib.Core.Bool.{Bool, true, false, cond}
+use mathlib.Core.Bool.{Bool, true, false, not, cond}
 use mathlib.Core.List.{List}
 use Prim.Native.Nat.{ℕ}
-use borrow.Author.Tests.{eq-eqb, ne-eqb, eqb-true}
+use native.Mathlib.Omega.{arith}
+use borrow.Author.Tests.{eq-eqb, ne-eqb, eqb-true, not-false}
 use lib.Dec.{eqb}
+use Rattle.modes.specs.Answer.{generalError}
+use Rattle.message.proofs.Faults.{no-fault}
+use Rattle.device.specs.Made.{made}
 use Rattle.device.specs.Outcome.{Outcome, refused, decided}
 use Rattle.device.specs.declared.Device.{Device}
 
@@ -37,3 +41,11 @@ same-answer answer d before success done = tests (eqb answer 0) refl
     tests : (b : Bool) → eqb answer 0 ≡ b → cond b success (refused answer d before) .answer ≡ answer
     tests true e = done ∙ sym (eqb-true answer 0 e)
     tests false e = refl
+
+-- ---- the first two checks of every command: made, and lengths
+pub made-and-long : (d : Device) (lengths : Bool) (rest : ℕ) → cond (not (made d)) generalError (cond (not lengths) generalError rest) ≡ 0
+    → (made d ≡ true) × (lengths ≡ true) × (rest ≡ 0)
+made-and-long d lengths rest e =
+    let one = no-fault (not (made d)) generalError _ (λ z. omega arith) e in
+    let two = no-fault (not lengths) generalError rest (λ z. omega arith) (one .1) in
+    (not-false (made d) (one .0), not-false lengths (two .0), two .1)

@@ -1,29 +1,24 @@
 -- EXPORT_RAM_KEY: what an answer of 0 tells, and its two ways out.
 -- Assumes nothing.
 use mathlib.Core.Path.{_≡_, refl}
-use mathlib.Core.Bool.{Bool, true, not}
+use mathlib.Core.Bool.{Bool, true}
 use mathlib.Core.List.{List, [], _∷_}
 use Prim.Native.Nat.{ℕ}
-use native.Mathlib.Omega.{arith}
-use borrow.Author.Tests.{not-false}
 use lib.ListN.{length}
 use Rattle.laws.specs.Lengths.{right}
 use Rattle.laws.specs.Ranges.{rowOf}
 use Rattle.message.specs.Messages.{m1, m2, m3, m4, m5}
 use Rattle.message.specs.Slots.{allowed, counterKept}
-use Rattle.message.proofs.Faults.{no-fault}
-use Rattle.device.specs.Made.{made}
 use Rattle.device.specs.Outcome.{outcome}
 use Rattle.device.specs.Record.{secretKey, ramKey, keyAt}
 use Rattle.device.specs.declared.Device.{Device}
-use Rattle.device.proofs.Outcome.{is-refused, is-done}
+use Rattle.device.proofs.Outcome.{is-refused, is-done, made-and-long}
 use Rattle.load.specs.Export.{exportAnswer, exportRamKey}
 use Rattle.load.specs.Load.{fiveLengths}
 
 pub export-lengths : (d : Device) (lengths : Bool) → exportAnswer d lengths ≡ 0 → lengths ≡ true
 unfolding exportAnswer
-export-lengths d lengths e =
-    not-false lengths (no-fault (not lengths) 12 _ (λ z. omega arith) (no-fault (not (made d)) 12 _ (λ z. omega arith) e .1) .0)
+export-lengths d lengths e = made-and-long d lengths _ e .1
 
 -- RAM_KEY by SECRET_KEY is a pair, and RAM_KEY keeps no counter
 pub ram-by-secret : allowed ramKey secretKey ≡ true

@@ -20,7 +20,7 @@ use Rattle.device.specs.Outcome.{outcome}
 use Rattle.device.specs.Record.{isEmpty, flagsAt}
 use Rattle.device.specs.Rules.{hasFlag, locked}
 use Rattle.device.specs.declared.Device.{Device}
-use Rattle.device.proofs.Outcome.{is-refused, is-done}
+use Rattle.device.proofs.Outcome.{is-refused, is-done, made-and-long}
 use Rattle.load.specs.Load.{fiveLengths, guards, messageChecks, guardAnswer, messageAnswer, loadAnswer, openedBy, proof4, loadKey}
 use Rattle.load.specs.Rules.{isForUs, counterRises, loaded}
 
@@ -36,15 +36,14 @@ pub record Guarded (d : Device) (lengths : Bool) (t a : ℕ) : Type 0 where
 pub guarded : (d : Device) (lengths : Bool) (t a : ℕ) → guardAnswer d lengths t a ≡ 0 → Guarded d lengths t a
 unfolding guardAnswer
 guarded d lengths t a e =
-    let one = no-fault (not (made d)) 12 _ (λ z. omega arith) e in
-    let two = no-fault (not lengths) 12 _ (λ z. omega arith) (one .1) in
-    let three = no-fault (not (allowed t a)) 3 _ (λ z. omega arith) (two .1) in
+    let begun = made-and-long d lengths _ e in
+    let three = no-fault (not (allowed t a)) 3 _ (λ z. omega arith) (begun .2) in
     let four = no-fault (hasFlag (flagsAt d t) write) 6 _ (λ z. omega arith) (three .1) in
     let five = no-fault (isEmpty d a && not (eqb a t)) 4 _ (λ z. omega arith) (four .1) in
     let six = no-fault (locked d a) 2 0 (λ z. omega arith) (five .1) in
     record {
-      is-made = not-false (made d) (one .0);
-      lengths-right = not-false lengths (two .0);
+      is-made = begun .0;
+      lengths-right = begun .1;
       pair = not-false (allowed t a) (three .0);
       writable = four .0;
       present = five .0;
