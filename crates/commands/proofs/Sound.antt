@@ -24,9 +24,8 @@ use Rattle.device.specs.Record.{secretKey, ramKey, off, on, isOn, putSlot, setP
 use Rattle.device.specs.Rules.{kept}
 use Rattle.device.specs.declared.Device.{Device}
 use Rattle.device.specs.declared.Slot.{Slot}
-use Rattle.device.proofs.Made.{Made, facts, is-made, debugger-set, random-set, made-ready, slot-set, empty-there, empty-elsewhere, fresh-sound}
+use Rattle.device.proofs.Made.{Made, facts, is-made, debugger-set, random-set, made-ready, put-sound, empty-there, empty-elsewhere, fresh-sound}
 use Rattle.device.proofs.Outcome.{is-done, either-way, same-answer, made-and-long}
-use Rattle.device.proofs.Slots.{put-fits, shape-kept}
 use Rattle.commands.specs.Checks.{otherAnswer}
 use Rattle.commands.specs.Commands.{makeAnswer, make, reset, attachDebugger, encEcb, decEcb, encCbc, decCbc, generateMac, verifyMac, loadPlainKey, initRng, extendSeed, rnd, getStatus, getId}
 use Rattle.commands.proofs.Passed.{other-lengths}
@@ -129,15 +128,11 @@ module _ (d : Device) (sound : Sound d) where
       → Sound (putSlot ramKey (record { key = key; counter = 0; flags = 0; empty = empty }) (setPlain plain e))
   ram-sound e key empty plain shaped m block fine h ram =
       let new : Slot = record { key = key; counter = 0; flags = 0; empty = empty } in
-      let small : 14 ≤ 14 = omega arith in
-      let put = put-fits ramKey new (setPlain plain e) small in
-      let there = empty-there ramKey new plain e shaped small (block .long) in
-      let elsewhere = empty-elsewhere ramKey new plain e shaped small (block .long) secretKey (λ z. omega arith) in
-      let whole = slot-set ramKey new plain e shaped small (block .long) (made-ready e m) fine h (ap not elsewhere ∙ m .secret) (ap (λ (b : Bool). not b || eqb plain off) there ∙ ram) in
-      (subst Shaped (sym put) (shape-kept ramKey new (setPlain plain e) (plain-shape shaped) small (block .long) (block .small)), ap made put ∙ is-made _ whole)
-    where
-      plain-shape : Shaped e → Shaped (setPlain plain e)
-      plain-shape s = record { keys = s .keys; key-bytes = s .key-bytes; counters = s .counters; flags = s .flags; empty = s .empty }
+      let last : 14 ≤ 14 = omega arith in
+      let there = empty-there ramKey new plain e shaped last (block .long) in
+      let elsewhere = empty-elsewhere ramKey new plain e shaped last (block .long) secretKey (λ z. omega arith) in
+      put-sound ramKey new plain e shaped last (block .long) (block .small) (made-ready e m) fine h (ap not elsewhere ∙ m .secret)
+      (ap (λ (b : Bool). not b || eqb plain off) there ∙ ram)
 
   pub reset-sound : Sound (reset d .device)
   unfolding reset slotFine counterKept kept flagsKept rowOf same

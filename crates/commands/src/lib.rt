@@ -153,7 +153,7 @@ pub fn attach_debugger(device: Device) -> Reply
 
 // ---- using a key
 
-// The answer of a command that uses a slot. Nothing of the key is read for it.
+// The answer of a command that uses a slot. The slot's key has no part in it, but that an empty slot must be zero.
 fn use_answer(device: Device, lengths: bool, slot: u8, role: Role) -> u8
     ensures { λ r. ⌜ r ≡ useAnswer device lengths slot role ⌝ }
 {

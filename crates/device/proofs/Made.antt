@@ -14,11 +14,11 @@ use Rattle.laws.specs.Same.{same}
 use Rattle.laws.specs.Tabulate.{tabulate}
 use Rattle.laws.proofs.Test.{both, all-each, each-all}
 use Rattle.aes.proofs.Bytes.{zero-bytes}
-use Rattle.aes.specs.State.{Block}
+use Rattle.aes.specs.State.{Block, Bytes}
 use Rattle.modes.specs.Blocks.{zeroBlock}
 use Rattle.message.specs.Slots.{flagsKept, counterKept}
 use Rattle.device.specs.Made.{isMark, zeroUid, slotFine, slotsFine, made, unkeyed, fresh, Sound}
-use Rattle.device.specs.Record.{secretKey, ramKey, off, isOn, isEmpty, blockAt, slotAt, withSlot, setPlain, setDebugger, setRandom, Shaped}
+use Rattle.device.specs.Record.{secretKey, ramKey, off, isOn, isEmpty, blockAt, slotAt, withSlot, putSlot, setPlain, setDebugger, setRandom, Shaped}
 use Rattle.device.specs.Rules.{kept}
 use Rattle.device.specs.declared.Device.{Device}
 use Rattle.device.specs.declared.Slot.{Slot}
@@ -132,6 +132,15 @@ module _ (s : ℕ) (new : Slot) (plain : ℕ) (d : Device) (shaped : Shaped d) (
   pub empty-elsewhere : (k : ℕ) → (k ≡ s → ⊥) → isEmpty (withSlot s new d) k ≡ isEmpty d k
   empty-elsewhere k e = ap (λ (x : Slot). isOn (x .empty)) (other-slot s new d shaped fits long k e)
 
+  -- so the whole is sound
+  pub put-sound : Bytes (new .key) → Ready d → slotFine s new ≡ true → isMark plain ≡ true → not (isEmpty (withSlot s new d) secretKey) ≡ true
+      → (not (isEmpty (withSlot s new d) ramKey) || eqb plain off) ≡ true → Sound (putSlot s new (setPlain plain d))
+  put-sound small r fine h secret ram =
+      let put = put-fits s new (setPlain plain d) fits in
+      let shape : Shaped (setPlain plain d)
+      = record { keys = shaped .keys; key-bytes = shaped .key-bytes; counters = shaped .counters; flags = shaped .flags; empty = shaped .empty } in
+      (subst Shaped (sym put) (shape-kept s new (setPlain plain d) shape fits long small), ap made put ∙ is-made _ (slot-set r fine h secret ram))
+
 -- ---- a new device
 module _ (uid seed : List ℕ) where
   unkeyed-shape : Shaped (unkeyed uid seed)
@@ -163,9 +172,6 @@ module _ (uid seed : List ℕ) where
     pub fresh-sound : same uid zeroUid ≡ false → Sound (fresh uid secret seed)
     unfolding new
     fresh-sound other =
-        let put = put-fits 0 new (unkeyed uid seed) (omega arith) in
         let there = empty-there 0 new 0 (unkeyed uid seed) unkeyed-shape (omega arith) (block .long) in
-        let m = slot-set 0 new 0 (unkeyed uid seed) unkeyed-shape (omega arith) (block .long) (unkeyed-ready other) new-fine refl (ap not there) (or-true (not (isEmpty (withSlot 0 new (unkeyed uid seed)) ramKey))) in (
-          subst Shaped (sym put) (shape-kept 0 new (unkeyed uid seed) unkeyed-shape (omega arith) (block .long) (block .small)),
-          ap made put ∙ is-made _ m,
-        )
+        put-sound 0 new 0 (unkeyed uid seed) unkeyed-shape (omega arith) (block .long) (block .small) (unkeyed-ready other) new-fine refl (ap not there)
+        (or-true (not (isEmpty (withSlot 0 new (unkeyed uid seed)) ramKey)))

@@ -1,6 +1,6 @@
 -- LOAD_KEY and EXPORT_RAM_KEY keep a made device made.
 -- Assumes nothing.
-use mathlib.Core.Path.{_≡_, refl, sym, ap, ap₂, _∙_, subst}
+use mathlib.Core.Path.{_≡_, refl, sym, ap, ap₂, _∙_}
 use mathlib.Core.Bool.{Bool, true, false, not, cond, _||_, or-true}
 use mathlib.Core.List.{List}
 use Prim.Native.Nat.{ℕ, _+_, _*_, _≤_}
@@ -22,13 +22,12 @@ use Rattle.message.specs.declared.Opened.{Opened}
 use Rattle.message.proofs.Building.{opens}
 use Rattle.message.proofs.Slots.{pair-slots}
 use Rattle.device.specs.Made.{isMark, slotFine, made, Sound}
-use Rattle.device.specs.Record.{secretKey, ramKey, off, isEmpty, blockAt, setPlain, withSlot, Shaped}
+use Rattle.device.specs.Record.{secretKey, ramKey, off, isEmpty, blockAt, withSlot, Shaped}
 use Rattle.device.specs.Rules.{kept}
 use Rattle.device.specs.declared.Device.{Device}
 use Rattle.device.specs.declared.Slot.{Slot}
-use Rattle.device.proofs.Made.{Made, facts, is-made, made-ready, slot-set, empty-elsewhere}
+use Rattle.device.proofs.Made.{Made, facts, made-ready, put-sound, empty-elsewhere}
 use Rattle.device.proofs.Outcome.{either-way}
-use Rattle.device.proofs.Slots.{put-fits, shape-kept}
 use Rattle.load.specs.Export.{exportRamKey}
 use Rattle.load.specs.Load.{fiveLengths, guardAnswer, messageAnswer, loadAnswer, openedBy, loadKey}
 use Rattle.load.specs.Rules.{authorityKey, plainAfter, loaded}
@@ -102,11 +101,9 @@ module _ (d : Device) (shaped : Shaped d) (m : Made d) (t c f : ℕ) (key : List
   unfolding loaded stored
   loaded-sound h =
       let plain = plainAfter t (d .plain) in
-      let put = put-fits t (stored t c f key) (setPlain plain d) high in
       let elsewhere = empty-elsewhere t (stored t c f key) off d shaped high (block .long) secretKey (λ e. omega (arith, low, e)) in
-      let whole = slot-set t (stored t c f key) plain d shaped high (block .long) (made-ready d m) (stored-fine t c f key h) (plain-is-mark t (d .plain) (m .plain-mark)) (ap not elsewhere ∙ m .secret) plain-fits in
-      let shape : Shaped (setPlain plain d) = record { keys = shaped .keys; key-bytes = shaped .key-bytes; counters = shaped .counters; flags = shaped .flags; empty = shaped .empty } in
-      (subst Shaped (sym put) (shape-kept t (stored t c f key) (setPlain plain d) shape high (block .long) (block .small)), ap made put ∙ is-made _ whole)
+      put-sound t (stored t c f key) plain d shaped high (block .long) (block .small) (made-ready d m) (stored-fine t c f key h)
+      (plain-is-mark t (d .plain) (m .plain-mark)) (ap not elsewhere ∙ m .secret) plain-fits
 
 -- ---- the commands
 module _ (n : ℕ) (few : n ≤ 100) (d : Device) (sound : Sound d) where

@@ -1,6 +1,6 @@
 // LOAD_KEY and EXPORT_RAM_KEY: key messages in, and out.
 //
-// The checks stand in the order of `specs/Load.antt`. Up to the six that guard the authority no key is read; the message is opened
+// The checks stand in the order of `specs/Load.antt`. Up to the six that guard the authority no key is used; the message is opened
 // only then, and the proof M4 and M5 is written only when all ten have passed.
 ghost use mathlib.Core.Path.{_≡_};
 ghost use mathlib.Core.Bool.{true};
