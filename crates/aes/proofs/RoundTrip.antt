@@ -3,10 +3,12 @@
 use mathlib.Core.Path.{_≡_, refl, ap, fun-ext, subst⁻¹}
 use mathlib.Core.List.{List}
 use Prim.Native.Nat.{ℕ, zero, suc}
+use Rattle.field.proofs.Laws.{sbox-byte}
 use Rattle.aes.specs.State.{Bytes, Block}
-use Rattle.aes.specs.Steps.{invSubBytes, invShiftRows, invMixColumns, addRoundKey}
+use Rattle.aes.specs.Steps.{substitute, subBytes, invSubBytes, invShiftRows, invMixColumns, addRoundKey}
 use Rattle.aes.specs.Schedule.{keyExpansion}
 use Rattle.aes.specs.Cipher.{round, rounds, cipherWith, cipher, invRound, invRounds, invCipherWith, invCipher}
+use Rattle.aes.proofs.Bytes.{state-block}
 use Rattle.aes.proofs.Steps.{Undone, Inverses, chain, sub-inverses, shift-inverses, mix-inverses, add-inverses}
 use Rattle.aes.proofs.Schedule.{expansion-bytes}
 
@@ -47,7 +49,7 @@ module _ (w : List ℕ) (bytes : Bytes w) where
   with-inverses =
       subst⁻¹ (λ (g : List ℕ → List ℕ). Inverses (cipherWith w) g) (fun-ext (λ s. ap (addRoundKey w 0) (regrouped 9 (addRoundKey w 10 s)))) stepwise
 
--- under a key; with it, that both give blocks
+-- under a key; with it, that both give blocks of blocks
 pub inverses : (key : List ℕ) → Block key → Inverses (cipher key) (invCipher key)
 unfolding cipher invCipher
 inverses key k = with-inverses (keyExpansion key) (expansion-bytes key (k .small))
@@ -57,3 +59,10 @@ deciphers key block k b = inverses key k .there .undo block b
 
 pub enciphers : (key block : List ℕ) → Block key → Block block → cipher key (invCipher key block) ≡ block
 enciphers key block k b = inverses key k .back .undo block b
+
+-- Cipher gives a block of anything, since its last round substitutes each byte
+pub cipher-block : (key s : List ℕ) → Block key → Block (cipher key s)
+unfolding cipher cipherWith subBytes substitute
+cipher-block key s k =
+    add-inverses (keyExpansion key) (expansion-bytes key (k .small)) 10 .there .keeps _
+    (shift-inverses .there .keeps _ (state-block _ (λ i. sbox-byte _)))

@@ -1,2 +1,3 @@
+pub mod Agreement
 pub mod Passed
 pub mod Sound

@@ -18,7 +18,7 @@ use Rattle.modes.specs.Blocks.{zeroBlock}
 use Rattle.message.specs.Slots.{flagsKept, counterKept}
 use Rattle.message.proofs.Faults.{no-fault}
 use Rattle.device.specs.Answers.{rngSeed}
-use Rattle.device.specs.Made.{isMark, zeroUid, slotFine, made, blank, fresh, Sound}
+use Rattle.device.specs.Made.{isMark, zeroUid, slotFine, blank, fresh, Sound}
 use Rattle.device.specs.Outcome.{Outcome, done}
 use Rattle.device.specs.Record.{secretKey, ramKey, off, on, isOn, putSlot, setPlain, setDebugger, setRandom, Shaped}
 use Rattle.device.specs.Rules.{kept}
@@ -37,9 +37,9 @@ make-sound uid secret seed small h =
     let zero = sym (same-answer (makeAnswer uid (length secret) (length seed)) blank [] (done (fresh uid secret seed) 0 []) refl) ∙ h in
     let one = no-fault (not (right ((length uid, 15) ∷ (length secret, 16) ∷ (length seed, 16) ∷ []))) 12 _ (λ z. omega arith) zero in
     let two = no-fault (same uid zeroUid) 12 0 (λ z. omega arith) (one .1) in
-    let long = each-right _ (not-false _ (one .0)) 1 in
+    let long = each-right _ (not-false _ (one .0)) in
     subst (λ (o : Outcome). Sound (o .device)) (is-done _ _ blank [] (done (fresh uid secret seed) 0 []) refl zero)
-    (fresh-sound uid seed secret (record { long = long; small = small }) (two .0))
+    (fresh-sound uid seed (long 0) secret (record { long = long 1; small = small }) (two .0))
 
 -- EXTEND_SEED and RND succeed where random numbers are initialised
 is-initialised : (d : Device) (lengths : Bool) → otherAnswer d lengths ((not (isOn (d .rng)), rngSeed) ∷ []) ≡ 0 → isOn (d .rng) ≡ true
@@ -85,8 +85,8 @@ module _ (d : Device) (sound : Sound d) where
   get-id-sound challenge output = either-way Sound _ d _ _ sound (λ done. sound)
 
   -- ---- marks and random numbers: the slots stay
-  slots-stay : (e : Device) → e .keys ≡ d .keys → e .counters ≡ d .counters → e .flags ≡ d .flags → e .empty ≡ d .empty → Shaped e
-  slots-stay e k c f m =
+  slots-stay : (e : Device) → e .keys ≡ d .keys → e .counters ≡ d .counters → e .flags ≡ d .flags → e .empty ≡ d .empty → e .uid ≡ d .uid → Shaped e
+  slots-stay e k c f m u =
       let s = sound .0 in
       record {
         keys = ap length k ∙ s .keys;
@@ -94,17 +94,18 @@ module _ (d : Device) (sound : Sound d) where
         counters = ap length c ∙ s .counters;
         flags = ap length f ∙ s .flags;
         empty = ap length m ∙ s .empty;
+        uid = ap length u ∙ s .uid;
       }
 
   pub attach-debugger-sound : Sound (attachDebugger d .device)
   unfolding attachDebugger
   attach-debugger-sound =
-      either-way Sound _ d _ _ sound (λ done. (slots-stay (setDebugger on d) refl refl refl refl, is-made _ (debugger-set d fact on refl)))
+      either-way Sound _ d _ _ sound (λ done. (slots-stay (setDebugger on d) refl refl refl refl refl, is-made _ (debugger-set d fact on refl)))
 
   random-sound : (seed state key : List ℕ) (mark : ℕ) → isMark mark ≡ true → (isOn mark || (same state zeroBlock && same key zeroBlock)) ≡ true
       → Sound (setRandom seed state key mark d)
   random-sound seed state key mark h rest =
-      (slots-stay (setRandom seed state key mark d) refl refl refl refl, is-made _ (random-set d fact seed state key mark h rest))
+      (slots-stay (setRandom seed state key mark d) refl refl refl refl refl, is-made _ (random-set d fact seed state key mark h rest))
 
   pub init-rng-sound : Sound (initRng d .device)
   unfolding initRng
@@ -140,7 +141,7 @@ module _ (d : Device) (sound : Sound d) where
       either-way Sound _ d _ _ sound
       (λ done. let e : Device = setDebugger off (setRandom (d .seed) zeroBlock zeroBlock off d) in
       let m = debugger-set (setRandom (d .seed) zeroBlock zeroBlock off d) (random-set d fact (d .seed) zeroBlock zeroBlock off refl refl) off refl in
-      ram-sound e zeroBlock on off (slots-stay e refl refl refl refl) m zero-block refl refl refl)
+      ram-sound e zeroBlock on off (slots-stay e refl refl refl refl refl) m zero-block refl refl refl)
 
   pub load-plain-key-sound : (key : List ℕ) → Bytes key → Sound (loadPlainKey d key .device)
   unfolding loadPlainKey slotFine counterKept kept flagsKept rowOf

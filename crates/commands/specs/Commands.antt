@@ -90,6 +90,10 @@ macAgrees bits a b =
     (same (take (bits / 8) a) (take (bits / 8) b)
     && eqb (byte a (bits / 8) / 2 ^ (8 - bits % 8)) (byte b (bits / 8) / 2 ^ (8 - bits % 8)))
 
+-- how many bits are compared
+abbrev pub compared : ℕ → ℕ
+compared macbits = cond (eqb macbits 0) 128 macbits
+
 unfoldable pub verifyMac : Device → ℕ → ℕ → List ℕ → List ℕ → ℕ → Outcome
 verifyMac d slot bits message mac macbits =
     decided (useAnswer d (cmacLengths 16 bits (length message) (length mac) && leb macbits 127) slot VerifyMac) d []

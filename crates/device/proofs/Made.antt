@@ -1,12 +1,14 @@
 -- What a made record is, fact by fact; and which changes keep it made.
 -- Assumes nothing.
 use mathlib.Core.Path.{_≡_, refl, sym, ap, _∙_, subst}
-use mathlib.Core.Bool.{true, false, not, _&&_, _||_, or-true}
+use mathlib.Core.Bool.{Bool, true, false, not, _&&_, _||_, or-true}
 use mathlib.Core.List.{List}
 use Prim.Native.Nat.{ℕ, _≤_, _<_}
 use native.Mathlib.Decide.{ℕ-discrete}
 use native.Mathlib.Omega.{arith}
-use lib.Dec.{eqb}
+use borrow.Author.Tests.{eqb-true, not-true}
+use lib.Bits.{bitAnd, and-zero-r}
+use lib.Dec.{eqb, leb}
 use lib.ListN.{length}
 use Rattle.laws.specs.All.{all}
 use Rattle.laws.specs.Ranges.{rowOf}
@@ -16,9 +18,10 @@ use Rattle.laws.proofs.Test.{both, all-each, each-all}
 use Rattle.aes.proofs.Bytes.{zero-bytes}
 use Rattle.aes.specs.State.{Block, Bytes}
 use Rattle.modes.specs.Blocks.{zeroBlock}
+use Rattle.message.specs.FirstBlock.{maxCounter}
 use Rattle.message.specs.Slots.{flagsKept, counterKept}
-use Rattle.device.specs.Made.{isMark, zeroUid, slotFine, slotsFine, made, unkeyed, fresh, Sound}
-use Rattle.device.specs.Record.{secretKey, ramKey, off, isOn, isEmpty, blockAt, slotAt, withSlot, putSlot, setPlain, setDebugger, setRandom, Shaped}
+use Rattle.device.specs.Made.{isMark, zeroUid, isZero, slotFine, slotsFine, made, unkeyed, fresh, Sound}
+use Rattle.device.specs.Record.{secretKey, ramKey, off, isOn, counterAt, flagsAt, emptyAt, isEmpty, blockAt, slotAt, withSlot, putSlot, setPlain, setDebugger, setRandom, Shaped}
 use Rattle.device.specs.Rules.{kept}
 use Rattle.device.specs.declared.Device.{Device}
 use Rattle.device.specs.declared.Slot.{Slot}
@@ -62,6 +65,20 @@ pub is-made : (d : Device) → Made d → made d ≡ true
 unfolding made slotsFine
 is-made d m =
     rw (m .mark, m .named, m .secret, each-all 15 (λ s. slotFine s (slotAt d s)) (m .slots), m .ram, m .at-rest, m .rng-mark, m .plain-mark, m .debugger-mark) refl
+
+-- ---- SECRET_KEY is there; a slot that keeps no flags has none
+module _ (d : Device) (m : Made d) where
+  pub secret-present : isEmpty d secretKey ≡ false
+  secret-present = not-true (isEmpty d secretKey) (m .secret)
+
+  pub flagless : (s : ℕ) → s < 15 → flagsKept s ≡ 0 → flagsAt d s ≡ 0
+  unfolding slotFine kept
+  flagless s fits none =
+      let counter : Bool = leb (counterAt d s) (counterKept s maxCounter) in
+      let flags : Bool = eqb (bitAnd (flagsAt d s) (flagsKept s)) (flagsAt d s) in
+      let three = both (isMark (emptyAt d s) && counter && flags) (not (isEmpty d s) || isZero (slotAt d s)) (m .slots s fits) .0 in
+      let same = eqb-true _ _ (both (isMark (emptyAt d s) && counter) flags three .1) in
+      sym same ∙ ap (bitAnd (flagsAt d s)) none ∙ and-zero-r (flagsAt d s)
 
 -- ---- changes
 module _ (d : Device) (m : Made d) where
@@ -138,13 +155,20 @@ module _ (s : ℕ) (new : Slot) (plain : ℕ) (d : Device) (shaped : Shaped d) (
   put-sound small r fine h secret ram =
       let put = put-fits s new (setPlain plain d) fits in
       let shape : Shaped (setPlain plain d)
-      = record { keys = shaped .keys; key-bytes = shaped .key-bytes; counters = shaped .counters; flags = shaped .flags; empty = shaped .empty } in
+      = record {
+        keys = shaped .keys;
+        key-bytes = shaped .key-bytes;
+        counters = shaped .counters;
+        flags = shaped .flags;
+        empty = shaped .empty;
+        uid = shaped .uid;
+      } in
       (subst Shaped (sym put) (shape-kept s new (setPlain plain d) shape fits long small), ap made put ∙ is-made _ (slot-set r fine h secret ram))
 
 -- ---- a new device
-module _ (uid seed : List ℕ) where
+module _ (uid seed : List ℕ) (long : length uid ≡ 15) where
   unkeyed-shape : Shaped (unkeyed uid seed)
-  unkeyed-shape = record { keys = refl; key-bytes = zero-bytes 240; counters = refl; flags = refl; empty = refl }
+  unkeyed-shape = record { keys = refl; key-bytes = zero-bytes 240; counters = refl; flags = refl; empty = refl; uid = long }
 
   unkeyed-slots : all 15 (λ s. slotFine s (slotAt (unkeyed uid seed) s)) ≡ true
   unfolding all slotFine counterKept kept flagsKept rowOf blockAt tabulate same

@@ -1,4 +1,4 @@
--- Texts that are a block or a UID, read whole.
+-- Texts that are a block or a UID, read whole; and a slot's key is a block.
 -- Assumes nothing.
 use mathlib.Core.Path.{_≡_, sym, ap, _∙_}
 use mathlib.Core.List.{List, [], _∷_, _++_}
@@ -8,8 +8,10 @@ use native.Mathlib.Omega.{arith}
 use lib.ListN.{length, take, set}
 use lib.Seq.{set-at, getD-take, length-take-le, take-all}
 use Rattle.laws.proofs.Tabulate.{tabulate-same, tabulate-own, tabulate-last}
-use Rattle.aes.specs.State.{byte}
-use Rattle.device.specs.Record.{blockAt, uidFrom}
+use Rattle.aes.specs.State.{byte, Block}
+use Rattle.aes.proofs.Bytes.{state-block}
+use Rattle.device.specs.Record.{blockAt, uidFrom, keyAt, Shaped}
+use Rattle.device.specs.declared.Device.{Device}
 
 pub block-whole : (text : List ℕ) → length text ≡ 16 → blockAt text 0 ≡ text
 unfolding blockAt
@@ -31,3 +33,7 @@ uid-block uid last long =
     let own = tabulate-same 15 filled (byte uid) (λ i h. ap (byte uid) (zero-add i)) ∙ tabulate-own 15 uid long in
     ap (λ (block : List ℕ). set block 15 last) (tabulate-last 15 filled ∙ ap (λ (front : List ℕ). front ++ (filled 15 ∷ [])) own)
     ∙ set-at uid (filled 15) [] last 15 long
+
+pub key-block : (d : Device) (slot : ℕ) → Shaped d → Block (keyAt d slot)
+unfolding blockAt
+key-block d slot shaped = state-block (λ i. byte (d .keys) (16 * slot + i)) (λ i. shaped .key-bytes (16 * slot + i))

@@ -77,4 +77,5 @@ module _ (s : ℕ) (new : Slot) (d : Device) (shaped : Shaped d) (fits : s ≤ 1
     counters = length-set (d .counters) s (new .counter) ∙ shaped .counters;
     flags = length-set (d .flags) s (new .flags) ∙ shaped .flags;
     empty = length-set (d .empty) s (new .empty) ∙ shaped .empty;
+    uid = shaped .uid;
   }

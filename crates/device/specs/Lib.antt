@@ -1,4 +1,5 @@
 pub mod Answers
+pub mod Checks
 pub mod Made
 pub mod Outcome
 pub mod Record

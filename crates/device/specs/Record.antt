@@ -139,3 +139,4 @@ pub record Shaped (d : Device) : Type 0 where
   pub counters : length (d .counters) ≡ 15
   pub flags : length (d .flags) ≡ 15
   pub empty : length (d .empty) ≡ 15
+  pub uid : length (d .uid) ≡ 15

@@ -1,3 +1,4 @@
+pub mod Among
 pub mod And
 pub mod Each
 pub mod Lengths

@@ -1,4 +1,5 @@
 pub mod All
+pub mod Among
 pub mod Lengths
 pub mod Ranges
 pub mod Same

@@ -15,13 +15,14 @@ use Rattle.message.specs.Messages.{m5}
 use Rattle.message.specs.Slots.{allowed}
 use Rattle.message.specs.declared.Opened.{Opened}
 use Rattle.message.proofs.Faults.{no-fault, found-first}
+use Rattle.device.specs.Checks.{checks}
 use Rattle.device.specs.Made.{made}
 use Rattle.device.specs.Outcome.{outcome}
 use Rattle.device.specs.Record.{isEmpty, flagsAt}
 use Rattle.device.specs.Rules.{hasFlag, locked}
 use Rattle.device.specs.declared.Device.{Device}
 use Rattle.device.proofs.Outcome.{is-refused, is-done, made-and-long}
-use Rattle.load.specs.Load.{fiveLengths, guards, messageChecks, guardAnswer, messageAnswer, loadAnswer, openedBy, proof4, loadKey}
+use Rattle.load.specs.Load.{fiveLengths, pairChecks, messageChecks, guardAnswer, messageAnswer, loadAnswer, openedBy, proof4, loadKey}
 use Rattle.load.specs.Rules.{isForUs, counterRises, loaded}
 
 -- ---- what an answer of 0 tells
@@ -75,7 +76,7 @@ module _ (d : Device) (lengths : Bool) (one : List ℕ) (new : Opened) where
   pub by-guards : (guardAnswer d lengths (targetOf one) (authorityOf one) ≡ 0 → ⊥) → guardAnswer d lengths (targetOf one) (authorityOf one) ≡ loadAnswer d lengths one new
   unfolding guardAnswer loadAnswer
   by-guards h =
-      sym (found-first (guards d lengths (targetOf one) (authorityOf one)) (messageChecks d (targetOf one) (uidOf one) new) h)
+      sym (found-first (checks d lengths (pairChecks d (targetOf one) (authorityOf one))) (messageChecks d (targetOf one) (uidOf one) new) h)
 
   pub by-message : guardAnswer d lengths (targetOf one) (authorityOf one) ≡ 0 → messageAnswer d (targetOf one) (uidOf one) new ≡ loadAnswer d lengths one new
   unfolding messageAnswer loadAnswer

@@ -3,7 +3,7 @@
 use mathlib.Core.Path.{_≡_, refl, sym, ap, ap₂, _∙_}
 use mathlib.Core.Bool.{Bool, true, false, not, cond, _||_, or-true}
 use mathlib.Core.List.{List}
-use Prim.Native.Nat.{ℕ, _+_, _*_, _≤_}
+use Prim.Native.Nat.{ℕ, _≤_}
 use native.Mathlib.Decide.{ℕ-discrete}
 use native.Mathlib.Omega.{arith}
 use borrow.Author.Tests.{le-leb, eq-eqb, ne-eqb}
@@ -13,21 +13,22 @@ use Rattle.laws.specs.Lengths.{right}
 use Rattle.laws.specs.Ranges.{within, rowOf}
 use Rattle.laws.proofs.And.{and-twice}
 use Rattle.laws.proofs.Lengths.{each-right}
-use Rattle.aes.specs.State.{byte, state, Bytes, Block}
-use Rattle.aes.proofs.Bytes.{state-block, tested-bytes}
+use Rattle.aes.specs.State.{Bytes, Block}
+use Rattle.aes.proofs.Bytes.{tested-bytes}
 use Rattle.message.specs.Building.{uidOf, targetOf, authorityOf}
 use Rattle.message.specs.FirstBlock.{maxCounter}
 use Rattle.message.specs.Slots.{flagsKept, counterKept}
 use Rattle.message.specs.declared.Opened.{Opened}
 use Rattle.message.proofs.Building.{opens}
 use Rattle.message.proofs.Slots.{pair-slots}
-use Rattle.device.specs.Made.{isMark, slotFine, made, Sound}
-use Rattle.device.specs.Record.{secretKey, ramKey, off, isEmpty, blockAt, withSlot, Shaped}
+use Rattle.device.specs.Made.{isMark, slotFine, Sound}
+use Rattle.device.specs.Record.{secretKey, ramKey, off, isEmpty, keyAt, withSlot, Shaped}
 use Rattle.device.specs.Rules.{kept}
 use Rattle.device.specs.declared.Device.{Device}
 use Rattle.device.specs.declared.Slot.{Slot}
 use Rattle.device.proofs.Made.{Made, facts, made-ready, put-sound, empty-elsewhere}
 use Rattle.device.proofs.Outcome.{either-way}
+use Rattle.device.proofs.Record.{key-block}
 use Rattle.load.specs.Export.{exportRamKey}
 use Rattle.load.specs.Load.{fiveLengths, guardAnswer, messageAnswer, loadAnswer, openedBy, loadKey}
 use Rattle.load.specs.Rules.{authorityKey, plainAfter, loaded}
@@ -47,12 +48,12 @@ module _ (d : Device) (lengths : Bool) (one : List ℕ) (new : Opened) (e : load
 
 -- ---- an authority's key is a block
 pub authority-block : (d : Device) (a : ℕ) → Shaped d → Block (authorityKey d a)
-unfolding authorityKey blockAt
+unfolding authorityKey
 authority-block d a shaped = tests (isEmpty d a)
   where
-    tests : (b : Bool) → Block (cond b (replicate 16 0xff) (state (λ i. byte (d .keys) (16 * a + i))))
+    tests : (b : Bool) → Block (cond b (replicate 16 0xff) (keyAt d a))
     tests true = record { long = refl; small = tested-bytes (replicate 16 0xff) refl }
-    tests false = state-block (λ i. byte (d .keys) (16 * a + i)) (λ i. shaped .key-bytes (16 * a + i))
+    tests false = key-block d a shaped
 
 -- ---- what the target then holds is what it may hold
 counter-kept-fits : (t c : ℕ) → c ≤ maxCounter → leb (counterKept t c) (counterKept t maxCounter) ≡ true

@@ -5,25 +5,21 @@ use mathlib.Core.List.{List, [], _∷_}
 use Prim.Native.Nat.{ℕ}
 use lib.ListN.{length}
 use Rattle.laws.specs.Lengths.{right}
-use Rattle.modes.specs.Answer.{generalError}
 use Rattle.message.specs.Answer.{keyInvalid, firstFault}
 use Rattle.message.specs.Messages.{Sent, build, m4, m5}
 use Rattle.device.specs.Answers.{keyEmpty}
-use Rattle.device.specs.Made.{made}
+use Rattle.device.specs.Checks.{checks}
 use Rattle.device.specs.Outcome.{Outcome, done, decided}
 use Rattle.device.specs.Record.{secretKey, ramKey, isOn, isEmpty, keyAt}
 use Rattle.device.specs.declared.Device.{Device}
 use Rattle.load.specs.Load.{fiveLengths}
 
--- not made; lengths; empty; not plain
+-- empty; not plain
+abbrev pub exportChecks : Device → List (Bool × ℕ)
+exportChecks d = (isEmpty d ramKey, keyEmpty) ∷ (not (isOn (d .plain)), keyInvalid) ∷ []
+
 unfoldable pub exportAnswer : Device → Bool → ℕ
-exportAnswer d lengths =
-    firstFault
-    ((not (made d), generalError)
-    ∷ (not lengths, generalError)
-    ∷ (isEmpty d ramKey, keyEmpty)
-    ∷ (not (isOn (d .plain)), keyInvalid)
-    ∷ [])
+exportAnswer d lengths = firstFault (checks d lengths (exportChecks d))
 
 -- M1 to M5 by authority 0, own UID, counter and flags 0
 abbrev pub exported : ℕ → Device → Sent

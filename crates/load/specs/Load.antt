@@ -6,7 +6,6 @@ use Prim.Native.Nat.{ℕ}
 use lib.Dec.{eqb}
 use lib.ListN.{length}
 use Rattle.laws.specs.Lengths.{right}
-use Rattle.modes.specs.Answer.{generalError}
 use Rattle.message.specs.Answer.{keyInvalid, firstFault}
 use Rattle.message.specs.Building.{uidOf, targetOf, authorityOf}
 use Rattle.message.specs.Flags.{write}
@@ -15,7 +14,7 @@ use Rattle.message.specs.Opening.{opened}
 use Rattle.message.specs.Slots.{allowed, counterKept}
 use Rattle.message.specs.declared.Opened.{Opened}
 use Rattle.device.specs.Answers.{keyEmpty, keyNotAvailable, keyWriteProtected, keyUpdateError}
-use Rattle.device.specs.Made.{made}
+use Rattle.device.specs.Checks.{checks}
 use Rattle.device.specs.Outcome.{Outcome, done, decided}
 use Rattle.device.specs.Record.{isEmpty, flagsAt}
 use Rattle.device.specs.Rules.{hasFlag, locked}
@@ -26,12 +25,10 @@ use Rattle.load.specs.Rules.{authorityKey, isForUs, counterRises, loaded
 abbrev pub fiveLengths : ℕ → ℕ → ℕ → ℕ → ℕ → List (ℕ × ℕ)
 fiveLengths m1 m2 m3 m4 m5 = (m1, 16) ∷ (m2, 32) ∷ (m3, 16) ∷ (m4, 32) ∷ (m5, 16) ∷ []
 
--- not made; lengths of all five buffers; pair; target WRITE; authority empty and not the target itself; authority locked
-abbrev pub guards : Device → Bool → ℕ → ℕ → List (Bool × ℕ)
-guards d lengths target authority =
-    (not (made d), generalError)
-    ∷ (not lengths, generalError)
-    ∷ (not (allowed target authority), keyInvalid)
+-- pair; target WRITE; authority empty and not the target itself; authority locked
+abbrev pub pairChecks : Device → ℕ → ℕ → List (Bool × ℕ)
+pairChecks d target authority =
+    (not (allowed target authority), keyInvalid)
     ∷ (hasFlag (flagsAt d target) write, keyWriteProtected)
     ∷ (isEmpty d authority && not (eqb authority target), keyEmpty)
     ∷ (locked d authority, keyNotAvailable)
@@ -47,14 +44,17 @@ messageChecks d target uid new =
     ∷ []
 
 unfoldable pub guardAnswer : Device → Bool → ℕ → ℕ → ℕ
-guardAnswer d lengths target authority = firstFault (guards d lengths target authority)
+guardAnswer d lengths target authority = firstFault (checks d lengths (pairChecks d target authority))
 
 unfoldable pub messageAnswer : Device → ℕ → List ℕ → Opened → ℕ
 messageAnswer d target uid new = firstFault (messageChecks d target uid new)
 
--- all ten
+-- all ten: not made; lengths of all five buffers; these four; these four
+abbrev pub loadChecks : Device → List ℕ → Opened → List (Bool × ℕ)
+loadChecks d m1 new = pairChecks d (targetOf m1) (authorityOf m1) ++ messageChecks d (targetOf m1) (uidOf m1) new
+
 unfoldable pub loadAnswer : Device → Bool → List ℕ → Opened → ℕ
-loadAnswer d lengths m1 new = firstFault (guards d lengths (targetOf m1) (authorityOf m1) ++ messageChecks d (targetOf m1) (uidOf m1) new)
+loadAnswer d lengths m1 new = firstFault (checks d lengths (loadChecks d m1 new))
 
 -- the message as it opens under the key of the authority that M1 names
 abbrev pub openedBy : ℕ → Device → List ℕ → List ℕ → List ℕ → Opened

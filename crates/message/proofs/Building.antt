@@ -20,19 +20,24 @@ use Rattle.aes.proofs.Bytes.{append-bytes, zero-block}
 use Rattle.modes.specs.Blocks.{zeroBlock, Text}
 use Rattle.modes.specs.Cbc.{cbcEncrypt}
 use Rattle.modes.specs.Constants.{constantOf}
-use Rattle.modes.specs.declared.Constant.the-variants.{KeyUpdateEnc}
-use Rattle.modes.proofs.Cbc.{cbc-deciphers, cbc-enciphers, cbc-decrypted}
+use Rattle.modes.specs.declared.Constant.the-variants.{KeyUpdateEnc, KeyUpdateMac}
+use Rattle.modes.proofs.Cbc.{cbc-deciphers, cbc-enciphers, cbc-encrypted, cbc-decrypted}
 use Rattle.modes.proofs.Compression.{kdf-block, constant-block}
+use Rattle.modes.proofs.MacSteps.{mac-block}
 use Rattle.modes.proofs.Texts.{first, rest}
 use Rattle.message.specs.Building.{uidOf, targetOf, authorityOf, Carried}
 use Rattle.message.specs.FirstBlock.{firstBlock, counterOf, flagsOf, fillerOf}
-use Rattle.message.specs.Messages.{encKey, m1, m2, m3, Sent, sent, build}
+use Rattle.message.specs.Messages.{encKey, macKey, m1, m2, m3, Sent, sent, build}
 use Rattle.message.specs.Opening.{openLengths, clearText, openedText, unopened, opened}
 use Rattle.message.specs.declared.Opened.{Opened}
 use Rattle.message.proofs.Opening.{opened-by-m3}
 use Rattle.message.proofs.FirstBlock.{first-block, counter-packed, flags-packed, filler-packed, counter-read, flags-read, packs-back}
 
 -- ---- M1 is its parts, and determines them
+pub m1-long : (uid : List ℕ) (t a : ℕ) → length uid ≡ 15 → length (m1 uid t a) ≡ 16
+unfolding m1
+m1-long uid t a long = length-append uid _ ∙ ap (λ (k : ℕ). k + 1) long
+
 pub m1-parts : (first : List ℕ) → length first ≡ 16 → first ≡ m1 (uidOf first) (targetOf first) (authorityOf first)
 unfolding m1
 m1-parts first long =
@@ -62,16 +67,25 @@ module _ (secret : List ℕ) (hs : Block secret) where
   k1-block : Block (encKey secret)
   k1-block = kdf-block secret (constantOf KeyUpdateEnc) hs (constant-block KeyUpdateEnc)
 
-  pub clear-of-m2 : (n c f : ℕ) (key : List ℕ) → Block key → clearText secret (m2 n secret c f key) ≡ firstBlock n c f ++ key
-  unfolding m2 clearText
-  clear-of-m2 n c f key hk =
+  built-clear : (n c f : ℕ) (key : List ℕ) → Block key → Text 2 (firstBlock n c f ++ key)
+  built-clear n c f key hk =
       let block = first-block n c f in
-      let clear : List ℕ = firstBlock n c f ++ key in
-      cbc-deciphers (encKey secret) zeroBlock clear 2 k1-block zero-block
-      (record {
+      record {
         long = length-append (firstBlock n c f) key ∙ ap₂ (λ (m k : ℕ). m + k) (block .long) (hk .long);
         small = append-bytes (firstBlock n c f) key (block .small) (hk .small);
-      })
+      }
+
+  pub m2-text : (n c f : ℕ) (key : List ℕ) → Block key → Text 2 (m2 n secret c f key)
+  unfolding m2
+  m2-text n c f key hk = cbc-encrypted (encKey secret) zeroBlock (firstBlock n c f ++ key) 2 k1-block zero-block (built-clear n c f key hk)
+
+  pub m3-block : (one two : List ℕ) → Block (m3 secret one two)
+  unfolding m3
+  m3-block one two = mac-block (macKey secret) 384 (one ++ two) (kdf-block secret (constantOf KeyUpdateMac) hs (constant-block KeyUpdateMac))
+
+  pub clear-of-m2 : (n c f : ℕ) (key : List ℕ) → Block key → clearText secret (m2 n secret c f key) ≡ firstBlock n c f ++ key
+  unfolding m2 clearText
+  clear-of-m2 n c f key hk = cbc-deciphers (encKey secret) zeroBlock (firstBlock n c f ++ key) 2 k1-block zero-block (built-clear n c f key hk)
 
   module _ (second : List ℕ) (h2 : Text 2 second) where
     clear-text : Text 2 (clearText secret second)

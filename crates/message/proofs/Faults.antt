@@ -1,9 +1,13 @@
--- The first fault of a list of checks: where there is none, and where it lies in a front part.
+-- The first fault of a list of checks: where there is none, where it lies in a front part, and which numbers it can be.
 -- Assumes nothing.
 use mathlib.Core.Path.{_≡_, refl}
-use mathlib.Core.Bool.{Bool, true, false, cond}
+use mathlib.Core.Bool.{Bool, true, false, cond, _&&_}
 use mathlib.Core.List.{List, [], _∷_, _++_}
 use Prim.Native.Nat.{ℕ}
+use Rattle.laws.specs.Among.{Among}
+use Rattle.laws.proofs.Among.{isAmong, tested-among}
+use Rattle.laws.proofs.Test.{both}
+use Rattle.modes.specs.Answer.{noError}
 use Rattle.message.specs.Answer.{firstFault}
 
 -- a check that answers no 0 has found no fault, and neither has any after it
@@ -21,3 +25,18 @@ pub found-first : (checks rest : List (Bool × ℕ)) → (firstFault checks ≡ 
 found-first [] rest h = absurd (h refl)
 found-first (check ∷ checks) rest h =
     found (check .0) (check .1) (firstFault (checks ++ rest)) (firstFault checks) (found-first checks rest) h
+
+-- it is in a list where the number of every check is
+abbrev pub allAmong : List ℕ → List (Bool × ℕ) → Bool
+allAmong xs [] = true
+allAmong xs (check ∷ checks) = isAmong (check .1) xs && allAmong xs checks
+
+pub first-among : (xs : List ℕ) (checks : List (Bool × ℕ)) → Among noError xs → allAmong xs checks ≡ true → Among (firstFault checks) xs
+first-among xs [] none h = none
+first-among xs (check ∷ checks) none h =
+    let parts = both (isAmong (check .1) xs) (allAmong xs checks) h in
+    tests (check .0) (check .1) (firstFault checks) (tested-among (check .1) xs (parts .0)) (first-among xs checks none (parts .1))
+  where
+    tests : (fault : Bool) (x y : ℕ) → Among x xs → Among y xs → Among (cond fault x y) xs
+    tests true x y p q = p
+    tests false x y p q = q

@@ -33,7 +33,7 @@ first-bits (suc t) x y h hx hy same =
 
 module _ (bits : ℕ) (a b : List ℕ) (ba : Bytes a) (bb : Bytes b) (agree : Agree bits a b) where
   -- of byte j, t bits are among those that agree
-  byte-bits : (j t : ℕ) → t ≤ 8 → 8 * j + t ≤ bits → byte a j / 2 ^ (8 - t) ≡ byte b j / 2 ^ (8 - t)
+  pub byte-bits : (j t : ℕ) → t ≤ 8 → 8 * j + t ≤ bits → byte a j / 2 ^ (8 - t) ≡ byte b j / 2 ^ (8 - t)
   byte-bits j t h l =
       first-bits t (byte a j) (byte b j) h (ba j) (bb j)
       (λ k m.
@@ -46,7 +46,7 @@ module _ (bits : ℕ) (a b : List ℕ) (ba : Bytes a) (bb : Bytes b) (agree : Ag
   whole-byte : (j : ℕ) → 8 * j + 8 ≤ bits → byte a j ≡ byte b j
   whole-byte j l = omega (arith, byte-bits j 8 (omega arith) l)
 
-  part : (at n : ℕ) → at + n ≤ length a → at + n ≤ length b → 8 * (at + n) ≤ bits → take n (drop at a) ≡ take n (drop at b)
+  pub part : (at n : ℕ) → at + n ≤ length a → at + n ≤ length b → 8 * (at + n) ≤ bits → take n (drop at a) ≡ take n (drop at b)
   part at n la lb l =
       sym (tabulate-part n a at la) ∙ tabulate-same n _ _ (λ k h. whole-byte (at + k) (omega arith)) ∙ tabulate-part n b at lb
 

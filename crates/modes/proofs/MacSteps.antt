@@ -1,12 +1,15 @@
--- CMAC: the last block by its two cases, and the steps of the code put together.
+-- CMAC: the last block by its two cases, the steps of the code put together, and that a MAC is a block.
 -- Assumes nothing.
-use mathlib.Core.Path.{_≡_, sym, ap, ap₂, _∙_}
+use mathlib.Core.Path.{_≡_, sym, ap, ap₂, _∙_, subst}
 use mathlib.Core.List.{List, [], _∷_, foldl, foldl-append}
 use Prim.Native.Nat.{ℕ, _-_, _*_}
 use native.Mathlib.Omega.{arith}
 use lib.ListN.{length, take, drop, length-drop}
 use lib.Seq.{take-all}
 use Rattle.laws.proofs.Test.{where-equal, where-other}
+use Rattle.aes.specs.Cipher.{cipher}
+use Rattle.aes.specs.State.{Block}
+use Rattle.aes.proofs.RoundTrip.{cipher-block}
 use Rattle.modes.specs.Blocks.{_⊕_, zeroBlock, blocks}
 use Rattle.modes.specs.Cbc.{chained}
 use Rattle.modes.specs.Cmac.{k1, k2, padded, blockCount, lastAt, lastBlock, cmac}
@@ -40,3 +43,7 @@ module _ (ciph : List ℕ → List ℕ) where
       ∙ ap₂ _⊕_ (el ∙ ap₂ (λ (k : ℕ) (y : List ℕ). lastBlock ciph (bits - 8 * k) y) here rest)
       (ec ∙ ap (λ (k : ℕ). foldl (chained ciph) zeroBlock (blocks (take k m))) here))
       ∙ last-chained bits m
+
+-- a MAC is a block, of any message
+pub mac-block : (key : List ℕ) (bits : ℕ) (m : List ℕ) → Block key → Block (cmac (cipher key) bits m)
+mac-block key bits m k = subst Block (last-chained (cipher key) bits m) (cipher-block key _ k)

@@ -1,0 +1,196 @@
+-- What must succeed does: messages that are built under the authority's key load where the rules hold.
+-- Assumes nothing.
+use mathlib.Core.Path.{_≡_, refl, sym, ap, ap₂, _∙_, subst, subst⁻¹}
+use mathlib.Core.Bool.{Bool, true, false, cond, _&&_, and-false, false≢true}
+use mathlib.Core.List.{List, [], _∷_}
+use Prim.Native.Nat.{ℕ, _≤_, _<_}
+use native.Mathlib.Omega.{arith}
+use lib.Pow.{pow-pos}
+use lib.ListN.{length, getD, replicate}
+use Rattle.laws.specs.Lengths.{right}
+use Rattle.laws.specs.Ranges.{rowOf}
+use Rattle.laws.proofs.Lengths.{each-right}
+use Rattle.laws.proofs.Same.{same-equal}
+use Rattle.aes.specs.State.{Bytes, Block}
+use Rattle.modes.specs.Answer.{noError}
+use Rattle.message.specs.Building.{uidOf, targetOf, authorityOf, Carried}
+use Rattle.message.specs.Flags.{flagCount, write, debugger}
+use Rattle.message.specs.Messages.{m1, m2, m3, m4, m5, Sent, build}
+use Rattle.message.specs.Slots.{counterKept}
+use Rattle.message.specs.Writer.{Messages, fullForm}
+use Rattle.message.proofs.Building.{m1-long, uid-of-m1, target-of-m1, authority-of-m1, m2-text, m3-block}
+use Rattle.message.proofs.Slots.{kept-0, kept-14, pair-slots}
+use Rattle.message.proofs.Written.{no-faults, is-written}
+use Rattle.device.specs.Made.{Sound}
+use Rattle.device.specs.Outcome.{Outcome, done}
+use Rattle.device.specs.Record.{secretKey, ramKey, off, isOn, keyAt, flagsAt, slotAt}
+use Rattle.device.specs.Rules.{hasFlag, locked}
+use Rattle.device.proofs.Made.{Made, facts, secret-present, flagless}
+use Rattle.device.proofs.Record.{key-block}
+use Rattle.device.specs.declared.Device.{Device}
+use Rattle.device.specs.declared.Slot.{Slot}
+use Rattle.load.specs.Export.{exported}
+use Rattle.load.specs.Load.{fiveLengths}
+use Rattle.load.specs.Rules.{authorityKey, isForUs, plainAfter, counterRises}
+use Rattle.load.proofs.Exporting.{ram-by-secret}
+use Rattle.load.proofs.Sound.{authority-block}
+use Rattle.demands.specs.Calls.{Call, load-key, export-ram-key, Machine, step}
+use Rattle.demands.specs.Demand3.{Rules, Loads, asKept, taken, Demand3}
+use Rattle.demands.specs.Liveness.{Liveness}
+use Rattle.demands.specs.Runs.{run, after, InBytes}
+use Rattle.demands.proofs.Runs.{runs, demand-3}
+use Rattle.demands.proofs.Steps.{finished, answer-found, step-done}
+use Rattle.demands.proofs.Third.{puts-one}
+
+-- ---- built messages load, on any machine that meets the third demand
+module _ (n : ℕ) (machine : Machine) (demand : Demand3 n machine) (d : Device) (sound : Sound d) (uid key : List ℕ) (t a c f : ℕ)
+    (long : length uid ≡ 15) (carried : Carried n c f key) (rules : Rules d uid t a c) where
+  abbrev made : Sent
+  made = build n uid t a (authorityKey d a) c f key
+
+  fits : a < 16
+  fits = omega (arith, pair-slots t a (rules .pair) .2)
+
+  named : (uidOf (m1 uid t a) ≡ uid) × (targetOf (m1 uid t a) ≡ t) × (authorityOf (m1 uid t a) ≡ a)
+  named = (uid-of-m1 uid t a long fits, target-of-m1 uid t a long fits, authority-of-m1 uid t a long fits)
+
+  loads-so : Loads n d (made .m1) (made .m2) (made .m3) c f key
+  loads-so = record {
+    carried = carried;
+    built = rw (named .0, named .1, named .2) refl;
+    rules = subst⁻¹ (λ (u : List ℕ). Rules d u (targetOf (m1 uid t a)) (authorityOf (m1 uid t a)) c) (named .0)
+        (subst⁻¹ (λ (x : ℕ). Rules d uid x (authorityOf (m1 uid t a)) c) (named .1)
+        (subst⁻¹ (λ (x : ℕ). Rules d uid t x c) (named .2) rules));
+  }
+
+  pub built-loads : (b4 b5 : List ℕ) → length b4 ≡ 32 → length b5 ≡ 16
+      → machine d (load-key (made .m1) (made .m2) (made .m3) b4 b5) ≡ taken d t a c f key
+  unfolding right
+  built-loads b4 b5 h4 h5 =
+      let secret = authority-block d a (sound .0) in
+      let second = m2-text (authorityKey d a) secret n c f key (carried .key-fits) in
+      let long : right (fiveLengths (length (made .m1)) (length (made .m2)) (length (made .m3)) (length b4) (length b5)) ≡ true
+      = rw (m1-long uid t a long, second .long, m3-block (authorityKey d a) secret (made .m1) (made .m2) .long, h4, h5) refl in
+      demand .loading d (made .m1) (made .m2) (made .m3) b4 b5 sound (second .small) long .leaves c f key loads-so
+      ∙ ap₂ (λ (x y : ℕ). taken d x y c f key) (named .1) (named .2)
+
+-- ---- what the writer writes: where it answers 0, what is built
+module _ (d : Device) (sound : Sound d) (uid key a1 a2 a3 : List ℕ) (t a c f : ℕ) (small : Bytes key) (rules : Rules d uid t a c) where
+  abbrev sheet : Messages
+  sheet = fullForm uid t a (authorityKey d a) c f key a1 a2 a3
+
+  pub writer-loads : (b4 b5 : List ℕ) → length b4 ≡ 32 → length b5 ≡ 16 → sheet .answer ≡ noError
+      → step flagCount d (load-key (sheet .m1) (sheet .m2) (sheet .m3) b4 b5) ≡ taken d t a c f key
+  unfolding fullForm
+  writer-loads b4 b5 h4 h5 zero =
+      let facts = no-faults _ c f t a zero in
+      let long = each-right _ (facts .0) in
+      let carried : Carried flagCount c f key
+      = record { counter-fits = facts .1; flags-fit = facts .2; key-fits = record { long = long 2; small = small } } in
+      let good : Sent = build flagCount uid t a (authorityKey d a) c f key in
+      let call : List ℕ → List ℕ → List ℕ → Outcome = λ x y z. step flagCount d (load-key x y z b4 b5) in
+      ap (λ (x : List ℕ). call x (sheet .m2) (sheet .m3)) (sym (is-written (sheet .answer) (good .m1) a1 zero))
+      ∙ ap (λ (y : List ℕ). call (good .m1) y (sheet .m3)) (sym (is-written (sheet .answer) (good .m2) a2 zero))
+      ∙ ap (λ (z : List ℕ). call (good .m1) (good .m2) z) (sym (is-written (sheet .answer) (good .m3) a3 zero))
+      ∙ built-loads flagCount (step flagCount) (demand-3 flagCount (omega arith)) d sound uid key t a c f
+      (long 0) carried rules b4 b5 h4 h5
+
+-- ---- SECRET_KEY has no flags, so is never locked, and RAM_KEY never has WRITE
+module _ (d : Device) (m : Made d) where
+  secret-unlocked : locked d secretKey ≡ false
+  unfolding locked
+  secret-unlocked =
+      ap (λ (flags : ℕ). isOn (d .debugger) && hasFlag flags debugger)
+      (flagless d m secretKey (omega arith) (sym (kept-0 secretKey (omega arith))))
+      ∙ and-false (isOn (d .debugger))
+
+  ram-writable : hasFlag (flagsAt d ramKey) write ≡ false
+  ram-writable = ap (λ (flags : ℕ). hasFlag flags write) (flagless d m ramKey (omega arith) (sym (kept-14 ramKey (omega arith))))
+
+  own-secret : authorityKey d secretKey ≡ keyAt d secretKey
+  unfolding authorityKey
+  own-secret = ap (λ (b : Bool). cond b (replicate 16 0xff) (keyAt d secretKey)) (secret-present d m)
+
+-- ---- what was exported, on the device that later calls have left
+module _ (n : ℕ) (few : n ≤ 100) (d : Device) (sound : Sound d) (calls : List Call) (bytes : InBytes calls) where
+  abbrev e : Device
+  e = after d (run (step n) d calls)
+
+  sound-e : Sound (after d (run (step n) d calls))
+  sound-e = runs n few .stays-made d calls sound bytes
+
+  made-e : Made (after d (run (step n) d calls))
+  made-e = facts e (sound-e .1)
+
+  uid-same : after d (run (step n) d calls) .uid ≡ d .uid
+  uid-same = runs n few .identity-stays d calls sound bytes .1
+
+  secret-same : authorityKey (after d (run (step n) d calls)) secretKey ≡ keyAt d secretKey
+  secret-same = own-secret e made-e ∙ ap (λ (x : Slot). x .key) (runs n few .identity-stays d calls sound bytes .0)
+
+  ram-rules : Rules (after d (run (step n) d calls)) (d .uid) ramKey secretKey 0
+  unfolding isForUs counterRises
+  ram-rules = record {
+    pair = ram-by-secret;
+    writable = ram-writable e made-e;
+    present = λ empty. absurd (false≢true (sym (secret-present e made-e) ∙ empty));
+    unlocked = secret-unlocked e made-e;
+    for-us = let same = same-equal (d .uid) (e .uid) (sym uid-same) in rw same refl;
+    rises = refl;
+  }
+
+  ram-block : Block (keyAt d ramKey)
+  ram-block = key-block d ramKey (sound .0)
+
+  exported-again : (b4 b5 : List ℕ) → length b4 ≡ 32 → length b5 ≡ 16
+      → step n e (load-key (exported n d .m1) (exported n d .m2) (exported n d .m3) b4 b5)
+      ≡ taken e ramKey secretKey 0 0 (keyAt d ramKey)
+  exported-again b4 b5 h4 h5 =
+      ap (λ (secret : List ℕ). let s = build n (d .uid) ramKey secretKey secret 0 0 (keyAt d ramKey) in step n e
+      (load-key (s .m1) (s .m2) (s .m3) b4 b5)) (sym secret-same)
+      ∙ built-loads n (step n) (demand-3 n few) e sound-e (d .uid) (keyAt d ramKey) ramKey secretKey 0 0 (sound .0 .uid)
+      (record { counter-fits = omega arith; flags-fit = pow-pos n; key-fits = ram-block }) ram-rules b4 b5 h4 h5
+
+  -- so whatever an export put out comes back
+  module _ (b1 b2 b3 b4 b5 one two three four five c4 c5 : List ℕ) (h4 : length c4 ≡ 32) (h5 : length c5 ≡ 16)
+      (out : step n d (export-ram-key b1 b2 b3 b4 b5) ≡ done d 0 (one ∷ two ∷ three ∷ four ∷ five ∷ [])) where
+    same-out : done d 0 (one ∷ two ∷ three ∷ four ∷ five ∷ []) ≡ finished n d (export-ram-key b1 b2 b3 b4 b5)
+    same-out =
+        sym out
+        ∙ step-done n d (export-ram-key b1 b2 b3 b4 b5) (sym (answer-found n d (export-ram-key b1 b2 b3 b4 b5)) ∙ ap (λ (o : Outcome). o .answer) out)
+
+    part : (k : ℕ) → getD (one ∷ two ∷ three ∷ four ∷ five ∷ []) k []
+        ≡ getD (finished n d (export-ram-key b1 b2 b3 b4 b5) .buffers) k []
+    part k = ap (λ (o : Outcome). getD (o .buffers) k []) same-out
+
+    later : step n e (load-key one two three c4 c5) ≡ taken e ramKey secretKey 0 0 (keyAt d ramKey)
+    later =
+        let call : List ℕ → List ℕ → List ℕ → Outcome = λ x y z. step n e (load-key x y z c4 c5) in
+        ap (λ (x : List ℕ). call x two three) (part 0) ∙ ap (λ (y : List ℕ). call (exported n d .m1) y three) (part 1)
+        ∙ ap (λ (z : List ℕ). call (exported n d .m1) (exported n d .m2) z) (part 2) ∙ exported-again c4 c5 h4 h5
+
+    proof : taken e ramKey secretKey 0 0 (keyAt d ramKey) .buffers ≡ four ∷ five ∷ []
+    unfolding counterKept rowOf
+    proof =
+        ap (λ (u : List ℕ). let fourth = m4 u ramKey secretKey 0 (keyAt d ramKey) in fourth ∷ m5 (keyAt d ramKey) fourth ∷ []) uid-same
+        ∙ ap₂ (λ (x y : List ℕ). x ∷ y ∷ []) (sym (part 3)) (sym (part 4))
+
+    pub comes-back : (step n e (load-key one two three c4 c5) .answer ≡ noError)
+        × (step n e (load-key one two three c4 c5) .buffers ≡ four ∷ five ∷ [])
+        × (slotAt (step n e (load-key one two three c4 c5) .device) ramKey ≡ asKept ramKey 0 0 (keyAt d ramKey))
+        × (step n e (load-key one two three c4 c5) .device .plain ≡ off)
+    unfolding plainAfter
+    comes-back =
+        let put = puts-one e ramKey 0 0 (keyAt d ramKey) (sound-e .0) (omega arith) ram-block in (
+          ap (λ (o : Outcome). o .answer) later,
+          ap (λ (o : Outcome). o .buffers) later ∙ proof,
+          ap (λ (o : Outcome). slotAt (o .device) ramKey) later ∙ put .target-is,
+          ap (λ (o : Outcome). o .device .plain) later ∙ put .plain-is,
+        )
+
+pub lives : Liveness (step flagCount)
+lives = record {
+  written-loads = λ d uid key a1 a2 a3 b4 b5 t a c f sound small h4 h5 rules. writer-loads d sound uid key a1 a2 a3 t a c f small rules b4 b5 h4 h5;
+  exported-loads = λ d b1 b2 b3 b4 b5 m1 m2 m3 m4 m5 c4 c5 calls sound bytes.
+      comes-back flagCount (omega arith) d sound calls bytes b1 b2 b3 b4 b5 m1 m2 m3 m4 m5 c4 c5;
+}

@@ -1,0 +1,152 @@
+-- No sham device meets the demands.
+-- Assumes nothing.
+use mathlib.Core.Path.{_≡_, refl, sym, ap, ap₂, _∙_, subst}
+use mathlib.Core.Bool.{true, false, false≢true}
+use mathlib.Core.List.{List, [], _∷_}
+use mathlib.Core.Logic.{inl}
+use Prim.Native.Nat.{ℕ}
+use native.Mathlib.Omega.{arith}
+use lib.ListN.{length, replicate}
+use Rattle.laws.specs.Lengths.{right}
+use Rattle.laws.specs.Ranges.{rowOf}
+use Rattle.laws.specs.Tabulate.{tabulate}
+use Rattle.laws.specs.Xor.{_xor_}
+use Rattle.field.specs.Field.{reduce, xtime, mulBits, mul, square, power, inverse}
+use Rattle.field.specs.Sbox.{affine, sbox}
+use Rattle.aes.specs.Cipher.{round, rounds, cipherWith, cipher}
+use Rattle.aes.specs.Schedule.{powerOfX, nextWord, moreWords, keyExpansion}
+use Rattle.aes.specs.Steps.{substitute, subBytes, shiftRows, moveRows, matrix, columns, mixColumns, addRoundKey}
+use Rattle.aes.specs.State.{byte, Block}
+use Rattle.aes.proofs.Bytes.{tested-bytes, zero-block}
+use Rattle.modes.specs.Answer.{noError, threeBlocks, cmacLengths}
+use Rattle.modes.specs.Blocks.{zeroBlock}
+use Rattle.message.specs.Slots.{hasRole, counterKept}
+use Rattle.message.specs.declared.Role.the-variants.{Cipher}
+use Rattle.device.specs.Made.{blank}
+use Rattle.device.specs.Rules.{locked, usageFits}
+use Rattle.device.specs.Outcome.{Outcome}
+use Rattle.device.specs.Record.{masterEcuKey, ramKey, blockAt, keyAt, emptyAt, putSlot}
+use Rattle.device.specs.declared.Device.{Device}
+use Rattle.load.specs.Rules.{authorityKey, counterRises, loaded}
+use Rattle.message.specs.Flags.{flagCount}
+use Rattle.message.specs.Messages.{m1, m4}
+use Rattle.message.proofs.Building.{parts-unique}
+use Rattle.demands.specs.Calls.{Call, enc-ecb, dec-ecb, verify-mac, load-plain-key, Machine}
+use Rattle.demands.specs.Demand1.{Demand1}
+use Rattle.demands.specs.Demand2.{first, output, Demand2}
+use Rattle.demands.specs.Demand3.{Demand3}
+use Rattle.demands.specs.Shams.{RefusesEveryLoad, OneBlockForAll, StoresNothing, ProvesNothing, OnlyTheFirst, MasksSlots, TakesAnyLength, ClearsFirst, Copies, SaysYes, TakesReplays}
+use Rattle.demands.specs.Witness.{master, door, board, keyed, fitted, plain, toKey1, key1, load, text, ciphertext}
+use Rattle.demands.proofs.Witness.{master-loads, key1-loads, plain-sound, plain-usable, master-block, door-carried, fitted-sound, second, third}
+use Rattle.demands.proofs.First.{making}
+
+text-block : Block text
+text-block = record { long = refl; small = tested-bytes text refl }
+
+published-block : cipher master text ≡ ciphertext
+unfolding reduce xtime mulBits mul square power inverse affine sbox _xor_ tabulate substitute subBytes shiftRows moveRows matrix columns mixColumns addRoundKey powerOfX nextWord moreWords keyExpansion round rounds cipherWith cipher
+published-block = refl
+
+plain-key : keyAt plain ramKey ≡ master
+unfolding putSlot blockAt tabulate
+plain-key = refl
+
+-- ---- the first demand
+module _ (machine : Machine) (demand : Demand1 flagCount machine) where
+  pub not-masking : MasksSlots machine → ⊥
+  unfolding threeBlocks right hasRole rowOf usageFits locked putSlot
+  not-masking sham =
+      let out : List ℕ = zeroBlock in
+      let none = demand .no-such-slot plain (enc-ecb 0x1e text out) 0x1e (plain-sound .1) refl (inl refl) (omega arith) in
+      let found = demand .by-the-order plain (enc-ecb ramKey text out) in
+      let zero : machine plain (enc-ecb ramKey text out) .answer ≡ noError = found ∙ rw (plain-sound .1) refl in
+      omega (arith, sym none ∙ ap (λ (o : Outcome). o .answer) (sham plain 0x1e text out) ∙ zero)
+
+  pub not-any-length : TakesAnyLength machine → ⊥
+  not-any-length sham = omega (arith, sym (demand .wrong-length board (load-plain-key []) refl) ∙ sham board [])
+
+  pub not-clearing-first : ClearsFirst machine → ⊥
+  not-clearing-first sham =
+      let call : Call = enc-ecb ramKey text text in
+      let twelve = demand .not-made blank call (making .blank-is-not-made) in
+      let refusal : machine blank call .answer ≡ noError → ⊥ = λ zero. omega (arith, sym twelve ∙ zero) in
+      let same = ap output (demand .refusal-changes-nothing blank call refusal) in
+      omega (arith, ap (λ (out : List ℕ). byte out 1) (sym same ∙ sham blank ramKey text text refusal))
+
+-- ---- the second
+module _ (machine : Machine) (demand : Demand2 flagCount machine) where
+  pub not-one-block : OneBlockForAll machine → ⊥
+  not-one-block sham =
+      let same = demand .texts-differ plain ramKey text zeroBlock zeroBlock zeroBlock
+      (plain-usable Cipher) text-block zero-block refl refl (sham plain ramKey text zeroBlock zeroBlock) in
+      omega (arith, ap (λ (x : List ℕ). byte x 1) same)
+
+  pub not-copying : Copies machine → ⊥
+  not-copying sham =
+      let x : List ℕ = output (machine plain (dec-ecb ramKey text zeroBlock)) in
+      let done = demand .ecb-redone plain ramKey text zeroBlock zeroBlock (plain-usable Cipher) text-block refl refl in
+      let copied : x ≡ text = sym (sham plain ramKey x zeroBlock) ∙ ap output done in
+      let exact = demand .exact .enciphers plain ramKey x zeroBlock (ap (λ (o : Outcome). o .answer) done) in
+      let same : text ≡ cipher master text = ap output (sym done ∙ exact) ∙ ap₂ cipher plain-key copied in
+      omega (arith, ap (λ (l : List ℕ). byte l 0) (same ∙ published-block))
+
+-- and with the first, which says that there is an answer 0
+module _ (machine : Machine) (first : Demand1 flagCount machine) (second : Demand2 flagCount machine) where
+  pub not-saying-yes : SaysYes machine → ⊥
+  unfolding cmacLengths hasRole rowOf usageFits locked putSlot
+  not-saying-yes sham =
+      let other : List ℕ = 0x80 ∷ replicate 15 0 in
+      let call : List ℕ → Call = λ mac. verify-mac ramKey 0 zeroBlock mac 0 in
+      let zero : machine plain (call zeroBlock) .answer ≡ noError = first .by-the-order plain (call zeroBlock)
+      ∙ rw (plain-sound .1) refl in
+      let zero′ : machine plain (call other) .answer ≡ noError = first .by-the-order plain (call other) ∙ rw (plain-sound .1) refl in
+      let agree = second .yes-means plain ramKey 0 zeroBlock zeroBlock 0 plain-sound (zero-block .small) zero .0
+      (sham plain ramKey 0 zeroBlock zeroBlock 0 zero) in
+      let agree′ = second .yes-means plain ramKey 0 zeroBlock other 0 plain-sound (tested-bytes other refl) zero′ .0
+      (sham plain ramKey 0 zeroBlock other 0 zero′) in
+      omega (arith, sym (agree 0 (omega arith)) ∙ agree′ 0 (omega arith))
+
+-- ---- loads
+module _ (machine : Machine) (demand : Demand3 flagCount machine) where
+  pub not-refusing : RefusesEveryLoad machine → ⊥
+  not-refusing sham = sham board _ _ _ _ _ (ap (λ (o : Outcome). o .answer) (master-loads machine demand))
+
+  -- slot 1 of the board is empty, and then it isn't
+  board-keyed : board ≡ keyed → ⊥
+  unfolding loaded putSlot
+  board-keyed e = omega (arith, ap (λ (d : Device). emptyAt d masterEcuKey) e)
+
+  keyed-fitted : keyed ≡ fitted → ⊥
+  unfolding loaded putSlot
+  keyed-fitted e = omega (arith, ap (λ (d : Device). emptyAt d key1) e)
+
+  pub not-storing-nothing : StoresNothing machine → ⊥
+  not-storing-nothing sham = board-keyed (sym (sham board _ _ _ _ _) ∙ ap (λ (o : Outcome). o .device) (master-loads machine demand))
+
+  -- byte 14 of M4 is the last of the UID
+  pub not-proving-nothing : ProvesNothing machine → ⊥
+  unfolding m1 m4 loaded putSlot
+  not-proving-nothing sham =
+      let same = sym (ap (λ (o : Outcome). o .buffers) (master-loads machine demand)) ∙ sham board _ _ _ _ _ in
+      omega (arith, ap (λ (buffers : List (List ℕ)). byte (first buffers) 14) same)
+
+  pub not-only-the-first : OnlyTheFirst machine → ⊥
+  unfolding loaded putSlot
+  not-only-the-first sham = keyed-fitted (sym (sham keyed _ _ _ _ _ refl) ∙ ap (λ (o : Outcome). o .device) (key1-loads machine demand))
+
+  -- the counter of the same message cannot rise twice
+  stale : counterRises fitted key1 1 ≡ false
+  unfolding counterRises loaded putSlot counterKept rowOf
+  stale = refl
+
+  pub not-taking-replays : TakesReplays machine → ⊥
+  unfolding m1 right loaded putSlot authorityKey blockAt tabulate
+  not-taking-replays sham =
+      let once = key1-loads machine demand in
+      let again = subst (λ (d : Device). machine d (load toKey1) .answer ≡ noError) (ap (λ (o : Outcome). o .device) once)
+      (sham keyed _ _ _ _ _ (ap (λ (o : Outcome). o .answer) once)) in
+      let some = demand .loading fitted (toKey1 .m1) (toKey1 .m2) (toKey1 .m3) (replicate 32 0) (replicate 16 0) fitted-sound
+      (second .small) (rw (second .long, third .long) refl) .exactly-when .0 again in
+      let same = parts-unique flagCount (omega arith) master (toKey1 .m1) (toKey1 .m2) (toKey1 .m3) master-block refl second
+      (third .long) (some .0) (some .1) 1 0 (some .2) door (some .3 .carried) door-carried (some .3 .built) refl .0 in
+      false≢true (sym stale ∙ subst (λ (c : ℕ). counterRises fitted key1 c ≡ true) same (some .3 .rules .rises))

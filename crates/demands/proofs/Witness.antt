@@ -1,0 +1,130 @@
+-- The theorems are not vacuous: a made device, loads that succeed, and loads that are refused.
+-- Assumes nothing.
+use mathlib.Core.Path.{_≡_, refl, _∙_}
+use mathlib.Core.Bool.{true, false, false≢true}
+use mathlib.Core.List.{List, [], _∷_}
+use Prim.Native.Nat.{ℕ}
+use native.Mathlib.Omega.{arith}
+use lib.ListN.{replicate}
+use Rattle.laws.specs.All.{all}
+use Rattle.laws.specs.Lengths.{right}
+use Rattle.laws.specs.Ranges.{rowOf}
+use Rattle.laws.specs.Same.{same}
+use Rattle.laws.specs.Tabulate.{tabulate}
+use Rattle.aes.specs.State.{Block}
+use Rattle.aes.proofs.Bytes.{tested-bytes}
+use Rattle.modes.specs.Blocks.{Text}
+use Rattle.message.specs.Answer.{keyInvalid}
+use Rattle.message.specs.Building.{Carried}
+use Rattle.message.specs.Messages.{m1, m2, m3}
+use Rattle.message.proofs.Building.{m2-text, m3-block, handed-back}
+use Rattle.message.specs.Flags.{flagCount}
+use Rattle.message.specs.Slots.{hasRole, flagsKept, counterKept, allowed}
+use Rattle.message.specs.declared.Role.{Role}
+use Rattle.device.specs.Answers.{keyUpdateError}
+use Rattle.device.specs.Made.{made, slotFine, slotsFine, Sound}
+use Rattle.device.specs.Outcome.{done, refused, decided}
+use Rattle.device.specs.Record.{masterEcuKey, ramKey, blockAt, putSlot}
+use Rattle.device.specs.Rules.{kept, locked, usageFits}
+use Rattle.device.proofs.Made.{facts, fresh-sound}
+use Rattle.commands.specs.Checks.{otherAnswer}
+use Rattle.commands.specs.Commands.{makeAnswer, make, loadPlainKey}
+use Rattle.commands.proofs.Sound.{load-plain-key-sound}
+use Rattle.load.specs.Load.{loadAnswer, openedBy, loadKey}
+use Rattle.load.specs.Rules.{authorityKey, isForUs, counterRises, plainAfter, loaded}
+use Rattle.load.proofs.Sound.{loaded-sound}
+use Rattle.demands.specs.Calls.{load-key, Machine, step}
+use Rattle.demands.specs.Demand2.{Usable}
+use Rattle.demands.specs.Demand3.{Rules, taken, Demand3}
+use Rattle.demands.specs.Witness.{uid, secret, seed, master, door, key1, board, keyed, fitted, plain, toMaster, toKey1, load}
+use Rattle.demands.proofs.Lives.{built-loads}
+use Rattle.demands.proofs.Steps.{answer-found}
+
+pub master-block : Block master
+master-block = record { long = refl; small = tested-bytes master refl }
+
+-- counter 1, no flags, and one of the two keys
+carries : (key : List ℕ) → Block key → Carried flagCount 1 0 key
+carries key block = record { counter-fits = omega arith; flags-fit = omega arith; key-fits = block }
+
+door-block : Block door
+door-block = record { long = refl; small = tested-bytes door refl }
+
+pub door-carried : Carried flagCount 1 0 door
+door-carried = carries door door-block
+
+-- ---- made
+pub board-made : make uid secret seed ≡ done board 0 []
+unfolding make makeAnswer right same decided
+board-made = refl
+
+pub board-sound : Sound board
+unfolding same
+board-sound = fresh-sound uid seed refl secret (record { long = refl; small = tested-bytes secret refl }) refl
+
+-- ---- the master key, by itself, on any machine that meets the third demand
+master-rules : Rules board uid masterEcuKey masterEcuKey 1
+unfolding allowed rowOf putSlot locked isForUs same counterRises
+master-rules = record { pair = refl; writable = refl; present = λ empty. refl; unlocked = refl; for-us = refl; rises = refl }
+
+pub master-loads : (machine : Machine) → Demand3 flagCount machine
+    → machine board (load toMaster) ≡ taken board masterEcuKey masterEcuKey 1 0 master
+unfolding authorityKey putSlot
+master-loads machine demand =
+    built-loads flagCount machine demand board board-sound uid master masterEcuKey masterEcuKey 1 0 refl
+    (carries master master-block) master-rules (replicate 32 0) (replicate 16 0) refl refl
+
+pub keyed-sound : Sound keyed
+keyed-sound =
+    loaded-sound board (board-sound .0) (facts board (board-sound .1)) masterEcuKey 1 0 master (omega arith)
+    (omega arith) master-block (omega arith)
+
+-- ---- KEY_1, by the master key
+key1-rules : Rules keyed uid key1 masterEcuKey 1
+unfolding allowed rowOf putSlot locked isForUs same counterRises loaded kept flagsKept
+key1-rules =
+    record { pair = refl; writable = refl; present = λ empty. absurd (false≢true empty); unlocked = refl; for-us = refl; rises = refl }
+
+pub key1-loads : (machine : Machine) → Demand3 flagCount machine → machine keyed (load toKey1) ≡ taken keyed key1 masterEcuKey 1 0 door
+unfolding authorityKey putSlot loaded blockAt tabulate
+key1-loads machine demand =
+    built-loads flagCount machine demand keyed keyed-sound uid door key1 masterEcuKey 1 0 refl
+    door-carried key1-rules (replicate 32 0) (replicate 16 0) refl refl
+
+pub fitted-sound : Sound fitted
+fitted-sound =
+    loaded-sound keyed (keyed-sound .0) (facts keyed (keyed-sound .1)) key1 1 0 door (omega arith) (omega arith) door-block
+    (omega arith)
+
+-- ---- a pair that is not allowed: the master key by KEY_1. All of it is computed
+pub mispaired-refused : step flagCount keyed (load-key (m1 uid masterEcuKey key1) (replicate 32 0) (replicate 16 0)
+    (replicate 32 0) (replicate 16 0)) ≡ refused keyInvalid keyed (replicate 32 0 ∷ replicate 16 0 ∷ [])
+unfolding loadKey loadAnswer decided right m1 allowed made slotsFine slotFine same counterKept kept flagsKept rowOf all loaded putSlot blockAt tabulate plainAfter
+mispaired-refused = refl
+
+-- ---- and the same message again
+pub second : Text 2 (toKey1 .m2)
+second = m2-text master master-block flagCount 1 0 door door-block
+
+pub third : Block (toKey1 .m3)
+third = m3-block master master-block (toKey1 .m1) (toKey1 .m2)
+
+opens-again : openedBy flagCount fitted (toKey1 .m1) (toKey1 .m2) (toKey1 .m3)
+    ≡ record { genuine = true; counter = 1; flags = 0; zeros = true; key = door }
+unfolding m1 authorityKey loaded putSlot blockAt tabulate
+opens-again =
+    handed-back flagCount (omega arith) master (toKey1 .m1) (toKey1 .m2) (toKey1 .m3) master-block refl second (third .long) 1 0 door
+    door-carried refl
+
+pub replay-refused : step flagCount fitted (load toKey1) .answer ≡ keyUpdateError
+unfolding m1 right allowed rowOf loaded putSlot kept flagsKept counterKept locked isForUs same counterRises
+replay-refused = answer-found flagCount fitted (load toKey1) ∙ rw (fitted-sound .1, second .long, third .long, opens-again) refl
+
+-- ---- a plain RAM key, which can be used for everything
+pub plain-sound : Sound plain
+unfolding loadPlainKey otherAnswer decided made slotsFine slotFine same counterKept kept flagsKept rowOf all putSlot blockAt tabulate
+plain-sound = load-plain-key-sound board board-sound master (tested-bytes master refl)
+
+pub plain-usable : (role : Role) → Usable plain ramKey role
+unfolding hasRole usageFits locked rowOf putSlot
+plain-usable role = record { is-sound = plain-sound; has-role = refl; holds-key = refl; unlocked = refl; fits = refl }

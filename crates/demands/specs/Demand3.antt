@@ -1,0 +1,101 @@
+-- The third demand: on a made device with right lengths, a key load succeeds exactly when some key, counter and flags exist which
+-- the published building, under the secret the paper gives the named slot, turns into these very three messages, and the paper's
+-- rules hold; then only the target slot changes, to that record as its slot keeps it. Over any sequence of calls no non-volatile
+-- counter falls, and each successful non-volatile load raises its slot's.
+-- Assumes nothing.
+use mathlib.Core.Path.{_≡_}
+use mathlib.Core.Bool.{true, false}
+use mathlib.Core.List.{List, [], _∷_}
+use mathlib.Core.Logic.{_↔_}
+use Prim.Native.Nat.{ℕ, _+_, _≤_}
+use lib.ListN.{length}
+use Rattle.laws.specs.Lengths.{right}
+use Rattle.aes.specs.State.{Bytes}
+use Rattle.modes.specs.Answer.{noError}
+use Rattle.message.specs.Building.{uidOf, targetOf, authorityOf, Carried}
+use Rattle.message.specs.Flags.{write}
+use Rattle.message.specs.Messages.{sent, build, m4, m5}
+use Rattle.message.specs.Slots.{allowed, counterKept}
+use Rattle.device.specs.Made.{made, Sound}
+use Rattle.device.specs.Outcome.{Outcome, done}
+use Rattle.device.specs.Record.{secretKey, off, isEmpty, counterAt, flagsAt, slotAt}
+use Rattle.device.specs.Rules.{hasFlag, kept, locked}
+use Rattle.device.specs.declared.Device.{Device}
+use Rattle.device.specs.declared.Slot.{Slot}
+use Rattle.load.specs.Load.{fiveLengths}
+use Rattle.load.specs.Rules.{authorityKey, isForUs, counterRises, plainAfter, loaded}
+use Rattle.demands.specs.Calls.{Call, Machine, load-key}
+use Rattle.demands.specs.Runs.{run, after, loadsOf, InBytes}
+
+-- the paper's rules for a message to UID', target and authority, with a counter: the pair; target without WRITE; authority not
+-- empty, or the target itself; authority not locked; identity; counter
+pub record Rules (d : Device) (uid : List ℕ) (target authority counter : ℕ) : Type 0 where
+  pub pair : allowed target authority ≡ true
+  pub writable : hasFlag (flagsAt d target) write ≡ false
+  pub present : isEmpty d authority ≡ true → authority ≡ target
+  pub unlocked : locked d authority ≡ false
+  pub for-us : isForUs d target uid ≡ true
+  pub rises : counterRises d target counter ≡ true
+
+-- a counter of 28 bits, n flags and a key of 16 bytes that the building turns into these very three messages, under the key of
+-- the authority that M1 names; and the rules hold
+pub record Loads (n : ℕ) (d : Device) (m1 m2 m3 : List ℕ) (counter flags : ℕ) (key : List ℕ) : Type 0 where
+  pub carried : Carried n counter flags key
+  pub built : build n (uidOf m1) (targetOf m1) (authorityOf m1) (authorityKey d (authorityOf m1)) counter flags key ≡ sent m1 m2 m3
+  pub rules : Rules d (uidOf m1) (targetOf m1) (authorityOf m1) counter
+
+-- a record as its slot keeps it
+abbrev pub asKept : ℕ → ℕ → ℕ → List ℕ → Slot
+asKept slot counter flags key = record { key = key; counter = counterKept slot counter; flags = kept slot flags; empty = off }
+
+-- one slot is new, and nothing else; slot 14's plain mark goes off with it
+pub record OnlyTarget (d : Device) (target : ℕ) (new : Slot) (e : Device) : Type 0 where
+  pub target-is : slotAt e target ≡ new
+  pub plain-is : e .plain ≡ plainAfter target (d .plain)
+  pub others-stay : (slot : ℕ) → (slot ≡ target → ⊥) → slotAt e slot ≡ slotAt d slot
+  pub uid-stays : e .uid ≡ d .uid
+  pub seed-stays : e .seed ≡ d .seed
+  pub state-stays : e .state ≡ d .state
+  pub random-key-stays : e .rngkey ≡ d .rngkey
+  pub random-mark-stays : e .rng ≡ d .rng
+  pub debugger-stays : e .debugger ≡ d .debugger
+  pub made-stays : e .made ≡ d .made
+
+-- what a device leaves that takes a key from an authority: M4 names its own UID and the counter that it stored
+abbrev pub taken : Device → ℕ → ℕ → ℕ → ℕ → List ℕ → Outcome
+taken d target authority counter flags key =
+    let fourth = m4 (d .uid) target authority (counterKept target counter) key in
+    done (loaded d target counter flags key) 0 (fourth ∷ m5 key fourth ∷ [])
+
+pub record LoadsExactly (n : ℕ) (machine : Machine) (d : Device) (m1 m2 m3 b4 b5 : List ℕ) : Type 0 where
+  pub exactly-when : (machine d (load-key m1 m2 m3 b4 b5) .answer ≡ noError)
+      ↔ ((counter : ℕ) × (flags : ℕ) × (key : List ℕ) × Loads n d m1 m2 m3 counter flags key)
+  -- then there are no others
+  pub no-others : (c f c′ f′ : ℕ) (key key′ : List ℕ) → Loads n d m1 m2 m3 c f key → Loads n d m1 m2 m3 c′ f′ key′
+      → (c ≡ c′) × (f ≡ f′) × (key ≡ key′)
+  -- and the target alone changes, to that record as its slot keeps it
+  pub leaves : (c f : ℕ) (key : List ℕ) → Loads n d m1 m2 m3 c f key
+      → machine d (load-key m1 m2 m3 b4 b5) ≡ taken d (targetOf m1) (authorityOf m1) c f key
+  pub only-target : (c f : ℕ) (key : List ℕ) → Loads n d m1 m2 m3 c f key
+      → OnlyTarget d (targetOf m1) (asKept (targetOf m1) c f key) (machine d (load-key m1 m2 m3 b4 b5) .device)
+
+-- over any sequence of calls
+pub record Runs (machine : Machine) : Type 0 where
+  pub stays-made : (d : Device) (calls : List Call) → Sound d → InBytes calls → Sound (after d (run machine d calls))
+  -- a non-volatile counter has risen at least by the number of loads of its slot that succeeded: it never falls, and each of them
+  -- raises it
+  pub counters-rise : (d : Device) (calls : List Call) (slot : ℕ) → Sound d → InBytes calls → slot ≤ 13
+      → counterAt d slot + loadsOf slot (run machine d calls) ≤ counterAt (after d (run machine d calls)) slot
+  -- a non-volatile slot changes only by a load of it that succeeds; SECRET_KEY and UID never change
+  pub slots-stay : (d : Device) (calls : List Call) (slot : ℕ) → Sound d → InBytes calls → slot ≤ 13
+      → loadsOf slot (run machine d calls) ≡ 0 → slotAt (after d (run machine d calls)) slot ≡ slotAt d slot
+  pub identity-stays : (d : Device) (calls : List Call) → Sound d → InBytes calls
+      → (slotAt (after d (run machine d calls)) secretKey ≡ slotAt d secretKey) × (after d (run machine d calls) .uid ≡ d .uid)
+  -- and a record that is not made never changes
+  pub unmade-stays : (d : Device) (calls : List Call) → made d ≡ false → after d (run machine d calls) ≡ d
+
+pub record Demand3 (n : ℕ) (machine : Machine) : Type 0 where
+  pub loading : (d : Device) (m1 m2 m3 b4 b5 : List ℕ) → Sound d → Bytes m2
+      → right (fiveLengths (length m1) (length m2) (length m3) (length b4) (length b5)) ≡ true
+      → LoadsExactly n machine d m1 m2 m3 b4 b5
+  pub runs : Runs machine

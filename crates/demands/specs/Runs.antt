@@ -1,0 +1,34 @@
+-- Calls one after another, each on the device that the one before it left.
+-- Assumes nothing.
+use mathlib.Core.Bool.{Bool, cond, _&&_}
+use mathlib.Core.List.{List, [], _∷_}
+use Prim.Native.Nat.{ℕ, _+_}
+use lib.Dec.{eqb}
+use lib.ListN.{getD}
+use Rattle.aes.specs.State.{Bytes}
+use Rattle.modes.specs.Answer.{noError}
+use Rattle.device.specs.Outcome.{Outcome}
+use Rattle.device.specs.declared.Device.{Device}
+use Rattle.demands.specs.Calls.{Call, reset, Machine, request}
+
+-- a day in the life of a device: each call, with its answer, the device after it and what was put out
+abbrev pub run : Machine → Device → List Call → List (Call × Outcome)
+run machine d [] = []
+run machine d (call ∷ calls) = (call, machine d call) ∷ run machine (machine d call .device) calls
+
+-- the device after a day
+abbrev pub after : Device → List (Call × Outcome) → Device
+after d [] = d
+after d (entry ∷ day) = after (entry .1 .device) day
+
+-- how many loads of a slot succeeded
+abbrev pub isLoadOf : ℕ → Call × Outcome → Bool
+isLoadOf slot entry = request (entry .0) .loads slot && eqb (entry .1 .answer) noError
+
+abbrev pub loadsOf : ℕ → List (Call × Outcome) → ℕ
+loadsOf slot [] = 0
+loadsOf slot (entry ∷ day) = cond (isLoadOf slot entry) 1 0 + loadsOf slot day
+
+-- ---- what the types say of calls, for theorems: the buffers that they bring hold bytes
+abbrev pub InBytes : List Call → Type 0
+InBytes calls = (call buffer : ℕ) → Bytes (getD (request (getD calls call reset) .brought) buffer [])

@@ -1,0 +1,140 @@
+#!/usr/bin/env python3
+"""promises.py: holds docs/PROMISES.md and docs/DEMANDS.md to the crates.
+
+Of every function that another crate or C can call: it has a row in the table of promises, its contract has no `requires`, and
+the definition that its contract equates the outcome with is the one that the row names, in the file that the row names. Every
+wrong program that the table names is an edit that is there, and every edit that is there is named. Every theorem that a table
+names is in its file. Every definition that `step` of crate `demands` gives a call is promised by a routine of `commands` or
+`load`, so that a theorem about `step` is one about the code.
+
+Writes each fault that it finds, and how much it looked at. The status is 0 only where there is no fault.
+"""
+import pathlib
+import re
+import sys
+
+ROOT = pathlib.Path(__file__).resolve().parent.parent
+CRATES = ROOT / "crates"
+faults = []
+
+
+def check(fine, fault):
+    if not fine:
+        faults.append(fault)
+
+
+def public_routines():
+    """(crate, name) -> its signature and contract, which stand before the body"""
+    found = {}
+    for source in sorted(CRATES.glob("*/src/**/*.rt")):
+        text = source.read_text()
+        for start in re.finditer(r'^pub (?:extern "C" )?fn (\w+)', text, re.M):
+            head = text[start.end():]
+            found[source.relative_to(CRATES).parts[0], start[1]] = head[:head.index("\n{")]
+    return found
+
+
+def cells(line):
+    return [cell.strip() for cell in re.split(r"(?<!\\)\|", line)[1:-1]]
+
+
+def tables(page):
+    """every table of a page: its heading's cells, and the cells of each row"""
+    found, lines = [], page.read_text().split("\n")
+    for before, line in zip([""] + lines, lines):
+        if not line.startswith("|"):
+            continue
+        if not before.startswith("|"):
+            found.append((cells(line), []))
+        elif not re.fullmatch(r"[|\-]+", line):
+            found[-1][1].append(cells(line))
+    return found
+
+
+def rows_under(page, first_heading):
+    return [row for heading, rows in tables(page) if heading[0] == first_heading for row in rows]
+
+
+def quoted(cell):
+    return re.findall(r"`([^`]+)`", cell)
+
+
+def declared(path, name):
+    """a definition, a theorem or a field `name` in a file under crates/"""
+    file = CRATES / path
+    if not file.is_file():
+        return False
+    return re.search(rf"^\s*(?:abbrev |unfoldable )?(?:pub )?(?:record |data )?{re.escape(name)}(?: [({{].*)? :", file.read_text(), re.M) is not None
+
+
+def places(cell, what):
+    """the names of a cell, and the files after them, which hold them together"""
+    names = [word for word in quoted(cell) if not word.endswith(".antt")]
+    files = [word for word in quoted(cell) if word.endswith(".antt")]
+    for name in names:
+        check(any(declared(file, name) for file in files), f"{what}: no `{name}` in {', '.join(files) or 'no file'}")
+    return names
+
+
+def hold_promises(routines):
+    page = ROOT / "docs" / "PROMISES.md"
+    told, named = {}, set()
+    for routine, _, definition, _, tried in rows_under(page, "routine"):
+        named.update(quoted(tried))
+        if not routine:
+            continue
+        crate, _, name = quoted(routine)[0].partition("(")[0].rpartition("::")
+        told[crate or "bench", name] = definition
+    for (crate, name), head in routines.items():
+        check((crate, name) in told, f"{crate}::{name} has no row in PROMISES.md")
+        check("requires" not in head, f"{crate}::{name} has a precondition")
+        promised = re.findall(r"≡ \(?([^\s()]+)", head)
+        check(promised, f"{crate}::{name} promises no equation")
+        definition = told.get((crate, name), "")
+        check(promised[:1] == quoted(definition)[:1], f"{crate}::{name} promises {promised[:1]}, and its row has {quoted(definition)[:1]}")
+        if "kit's library" not in definition:
+            places(definition, f"{crate}::{name}")
+    for crate, name in told.keys() - routines.keys():
+        check(False, f"PROMISES.md has a row for {crate}::{name}, which is not there")
+    edits = {edit.stem for edit in [*CRATES.glob("*/must-fail/*.edit"), *ROOT.glob("tests/shams/*/*.edit")]}
+    prose = set(quoted(page.read_text()))
+    for edit in edits - named - prose:
+        check(False, f"the wrong program {edit} is not named in PROMISES.md")
+    for name in named - edits:
+        check("_" not in name, f"PROMISES.md names the wrong program {name}, which is not there")
+    return len(edits)
+
+
+def hold_theorems():
+    count = 0
+    for page, first_heading, names in (("PROMISES.md", "theorem", 0), ("DEMANDS.md", "words", 1), ("DEMANDS.md", "sham", 1), ("DEMANDS.md", "witness", 1)):
+        rows = rows_under(ROOT / "docs" / page, first_heading)
+        check(rows, f"{page} has no table of '{first_heading}'")
+        for row in rows:
+            count += len(places(row[names] + " " + row[-1], f"{page}, {row[0]}"))
+    return count
+
+
+def hold_calls(routines):
+    steps = re.findall(r"^step n d .* = (?:commands\.)?(\w+) ", (CRATES / "demands/specs/Calls.antt").read_text() + " ", re.M)
+    promised = {name for (crate, _), head in routines.items() if crate in ("commands", "load") for name in re.findall(r"≡ (\w+)", head)}
+    check(len(steps) >= 16, "crate demands gives fewer than sixteen calls a definition")
+    for definition in steps:
+        check(definition in promised, f"`step` uses {definition}, which no routine promises")
+    return len(steps)
+
+
+def main():
+    routines = public_routines()
+    check(len(routines) > 60, "fewer public routines than there are")
+    edits = hold_promises(routines)
+    theorems = hold_theorems()
+    calls = hold_calls(routines)
+    for fault in faults:
+        print(f"promises: {fault}")
+    print(f"promises: {len(routines)} routines, {edits} wrong programs, {theorems} names of theorems, {calls} calls, {len(faults)} faults")
+    return 1 if faults else 0
+
+
+if __name__ == "__main__":
+    sys.exit(main())
