@@ -1,6 +1,6 @@
 #!/bin/sh
 # The gate: everything is proved from nothing, the must-fail edits are refused, the programs write what they should, the files
-# are in the layout, and the tests beside the proofs pass. The last line is 'N passed, M failed', and the status is 0 only
+# are in the layout, and the tests beside the proofs pass; no public routine lacks a promise in docs/. The last line is 'N passed, M failed', and the status is 0 only
 # where M is 0.
 set -u
 cd "$(dirname "$0")/.." || exit 2
@@ -38,6 +38,8 @@ python3 tests/cases.py <crates/cases/stdin | cmp - crates/cases/stdout
 count $? "the second program's account of the cases"
 python3 tests/replay.py sh tests/run-program.sh cases
 count $? "random days of the device, on both programs"
+python3 tests/promises.py
+count $? "the pages on promises and demands, held to the crates"
 
 echo "$passed passed, $failed failed"
 [ "$failed" -eq 0 ]

@@ -2,6 +2,7 @@ pub mod First
 pub mod Lives
 pub mod Runs
 pub mod Second
+pub mod Settled
 pub mod Shams
 pub mod Steps
 pub mod Third

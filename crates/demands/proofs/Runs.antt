@@ -7,7 +7,7 @@ use Prim.Native.Nat.{ℕ, suc, _+_, _≤_, _<_}
 use native.Mathlib.Omega.{arith}
 use borrow.Author.Tests.{eq-eqb, ne-eqb, eqb-true, eqb-false, ltb-true}
 use lib.Dec.{eqb, ltb}
-use lib.ListN.{length, getD}
+use lib.ListN.{length}
 use Rattle.laws.specs.Lengths.{right}
 use Rattle.laws.proofs.Test.{both}
 use Rattle.aes.specs.State.{Bytes}
@@ -29,7 +29,7 @@ use Rattle.load.specs.Rules.{counterRises}
 use Rattle.load.proofs.Sound.{load-key-sound, export-ram-key-sound}
 use Rattle.demands.specs.Calls.{Call, reset, attach-debugger, enc-ecb, dec-ecb, enc-cbc, dec-cbc, generate-mac, verify-mac, load-key, load-plain-key, export-ram-key, init-rng, extend-seed, rnd, get-status, get-id, step, request}
 use Rattle.demands.specs.Demand3.{Runs, Demand3}
-use Rattle.demands.specs.Runs.{run, after, isLoadOf, loadsOf, InBytes}
+use Rattle.demands.specs.Runs.{run, after, isLoadOf, loadsOf, BringsBytes, InBytes}
 use Rattle.demands.proofs.Steps.{found, success, answer-found, step-done, step-either}
 use Rattle.demands.proofs.Third.{puts-one, succeeds, loads-exactly}
 use Rattle.demands.proofs.First.{step-unmade}
@@ -46,7 +46,7 @@ raised d e t s c same low high rises stored =
 
 module _ (n : ℕ) (few : n ≤ 100) (d : Device) (sound : Sound d) where
   -- ---- one call keeps a made device made
-  pub step-sound : (call : Call) → ((buffer : ℕ) → Bytes (getD (request call .brought) buffer [])) → Sound (step n d call .device)
+  pub step-sound : (call : Call) → BringsBytes call → Sound (step n d call .device)
   step-sound reset bytes = reset-sound d sound
   step-sound attach-debugger bytes = attach-debugger-sound d sound
   step-sound (enc-ecb slot input output) bytes = enc-ecb-sound d sound slot input output
@@ -98,7 +98,7 @@ module _ (n : ℕ) (few : n ≤ 100) (d : Device) (sound : Sound d) where
             uid = one .uid-stays;
           }
 
-    effect : (call : Call) → ((buffer : ℕ) → Bytes (getD (request call .brought) buffer [])) → found n d call ≡ 0
+    effect : (call : Call) → BringsBytes call → found n d call ≡ 0
         → Effect (request call .loads s) (success n d call .0) s
     unfolding putSlot
     effect reset bytes none = no-load (beside-ram zeroBlock on refl) refl
@@ -119,7 +119,7 @@ module _ (n : ℕ) (few : n ≤ 100) (d : Device) (sound : Sound d) where
     effect get-status bytes none = no-load refl refl
     effect (get-id challenge output) bytes none = no-load refl refl
 
-    module _ (call : Call) (bytes : (buffer : ℕ) → Bytes (getD (request call .brought) buffer [])) where
+    module _ (call : Call) (bytes : BringsBytes call) where
       -- so after any call: a slot that was not loaded with success is as it was
       step-stays : isLoadOf s (call, step n d call) ≡ false → slotAt (step n d call .device) s ≡ slotAt d s
       step-stays other =

@@ -30,5 +30,8 @@ loadsOf slot [] = 0
 loadsOf slot (entry ∷ day) = cond (isLoadOf slot entry) 1 0 + loadsOf slot day
 
 -- ---- what the types say of calls, for theorems: the buffers that they bring hold bytes
+abbrev pub BringsBytes : Call → Type 0
+BringsBytes call = (k : ℕ) → Bytes (getD (request call .brought) k [])
+
 abbrev pub InBytes : List Call → Type 0
-InBytes calls = (call buffer : ℕ) → Bytes (getD (request (getD calls call reset) .brought) buffer [])
+InBytes calls = (k : ℕ) → BringsBytes (getD calls k reset)
