@@ -35,8 +35,8 @@ use Rattle.demands.specs.Demand1.{table, Demand1, Making}
 use Rattle.demands.proofs.Steps.{answer-found, in-table, step-refused}
 
 -- ---- a number that is no slot has no role and stands in no pair
-no-role : (d : Device) (slot : ℕ) (role : Role) (s : ℕ) → Among s (slot ∷ []) → ramKey < s → firstFault (slotChecks d slot role)
-    ≡ keyInvalid
+no-role : (d : Device) (slot : ℕ) (role : Role) (s : ℕ) → Among s (slot ∷ []) → ramKey < s
+    → firstFault (slotChecks d slot role) ≡ keyInvalid
 no-role d slot role s (inl e) high = let none = role-15 slot role (omega (arith, e)) in rw (sym none) refl
 no-role d slot role s (inr none) high = absurd none
 
@@ -80,11 +80,6 @@ module _ (n : ℕ) (d : Device) where
   either-12 : (m : Bool) (rest : ℕ) → cond (not m) generalError (cond (not false) generalError rest) ≡ generalError
   either-12 true rest = refl
   either-12 false rest = refl
-
--- the blank device is not made
-blank-unmade : made blank ≡ false
-unfolding made
-blank-unmade = refl
 
 pub demand-1 : (n : ℕ) → Demand1 n (step n)
 demand-1 n = record {
@@ -147,6 +142,10 @@ module _ (uid secret seed : List ℕ) where
   made-so : make uid secret seed .answer ≡ noError → make uid secret seed ≡ done (fresh uid secret seed) 0 []
   unfolding make
   made-so zero = sym (is-done _ _ blank [] (done (fresh uid secret seed) 0 []) refl (sym answer-is ∙ zero))
+
+blank-unmade : made blank ≡ false
+unfolding made
+blank-unmade = refl
 
 pub making : Making make
 making = record {

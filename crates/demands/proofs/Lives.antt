@@ -34,12 +34,12 @@ use Rattle.load.specs.Load.{fiveLengths}
 use Rattle.load.specs.Rules.{authorityKey, isForUs, plainAfter, counterRises}
 use Rattle.load.proofs.Exporting.{ram-by-secret}
 use Rattle.load.proofs.Sound.{authority-block}
-use Rattle.demands.specs.Calls.{Call, load-key, export-ram-key, Machine, step}
+use Rattle.demands.specs.Calls.{Call, load-key, export-ram-key, Machine, step, finished}
 use Rattle.demands.specs.Demand3.{Rules, Loads, asKept, taken, Demand3}
 use Rattle.demands.specs.Liveness.{Liveness}
 use Rattle.demands.specs.Runs.{run, after, InBytes}
 use Rattle.demands.proofs.Runs.{runs, demand-3}
-use Rattle.demands.proofs.Steps.{finished, answer-found, step-done}
+use Rattle.demands.proofs.Steps.{answer-found, step-done}
 use Rattle.demands.proofs.Third.{puts-one}
 
 -- ---- built messages load, on any machine that meets the third demand

@@ -27,10 +27,10 @@ use Rattle.commands.proofs.Sound.{enc-ecb-sound, dec-ecb-sound, enc-cbc-sound, 
 use Rattle.load.specs.Load.{fiveLengths}
 use Rattle.load.specs.Rules.{counterRises}
 use Rattle.load.proofs.Sound.{load-key-sound, export-ram-key-sound}
-use Rattle.demands.specs.Calls.{Call, reset, attach-debugger, enc-ecb, dec-ecb, enc-cbc, dec-cbc, generate-mac, verify-mac, load-key, load-plain-key, export-ram-key, init-rng, extend-seed, rnd, get-status, get-id, step, request}
+use Rattle.demands.specs.Calls.{Call, reset, attach-debugger, enc-ecb, dec-ecb, enc-cbc, dec-cbc, generate-mac, verify-mac, load-key, load-plain-key, export-ram-key, init-rng, extend-seed, rnd, get-status, get-id, step, request, success}
 use Rattle.demands.specs.Demand3.{Runs, Demand3}
 use Rattle.demands.specs.Runs.{run, after, isLoadOf, loadsOf, BringsBytes, InBytes}
-use Rattle.demands.proofs.Steps.{found, success, answer-found, step-done, step-either}
+use Rattle.demands.proofs.Steps.{found, answer-found, step-done, step-either}
 use Rattle.demands.proofs.Third.{puts-one, succeeds, loads-exactly}
 use Rattle.demands.proofs.First.{step-unmade}
 

@@ -39,36 +39,17 @@ use Rattle.device.proofs.Record.{key-block}
 use Rattle.commands.specs.Checks.{slotChecks}
 use Rattle.commands.specs.Commands.{macAgrees, compared}
 use Rattle.commands.proofs.Agreement.{agrees-exactly}
-use Rattle.demands.specs.Calls.{Call, reset, attach-debugger, enc-ecb, dec-ecb, enc-cbc, dec-cbc, generate-mac, verify-mac, load-plain-key, export-ram-key, init-rng, extend-seed, rnd, get-status, get-id, step, request}
-use Rattle.demands.specs.Demand2.{Does, Exact, Usable, output, yes-verdict, Demand2}
-use Rattle.demands.proofs.Steps.{finished, answer-found, step-done}
+use Rattle.demands.specs.Calls.{Call, enc-ecb, dec-ecb, enc-cbc, dec-cbc, generate-mac, verify-mac, step, request, finished}
+use Rattle.demands.specs.Demand2.{Usable, output, yes-verdict, Demand2}
+use Rattle.demands.proofs.Steps.{answer-found, step-done}
 
 -- ---- where it answers 0 it does what is done
-does : (n : ℕ) (d : Device) (call : Call) → Does (step n) d call (finished n d call)
+does : (n : ℕ) (d : Device) (call : Call) → step n d call .answer ≡ noError → step n d call ≡ finished n d call
 does n d call zero = step-done n d call (sym (answer-found n d call) ∙ zero)
-
-exactly : (n : ℕ) → Exact n (step n)
-exactly n = record {
-  resets = λ d. does n d reset;
-  attaches = λ d. does n d attach-debugger;
-  enciphers = λ d slot text out. does n d (enc-ecb slot text out);
-  deciphers = λ d slot text out. does n d (dec-ecb slot text out);
-  chains = λ d slot iv text out. does n d (enc-cbc slot iv text out);
-  unchains = λ d slot iv text out. does n d (dec-cbc slot iv text out);
-  signs = λ d slot bits message out. does n d (generate-mac slot bits message out);
-  verifies = λ d slot bits message mac macbits. does n d (verify-mac slot bits message mac macbits);
-  takes = λ d key. does n d (load-plain-key key);
-  exports = λ d b1 b2 b3 b4 b5. does n d (export-ram-key b1 b2 b3 b4 b5);
-  starts = λ d. does n d init-rng;
-  extends = λ d entropy. does n d (extend-seed entropy);
-  draws = λ d out. does n d (rnd out);
-  tells = λ d. does n d get-status;
-  identifies = λ d challenge out. does n d (get-id challenge out);
-}
 
 -- ---- no check finds fault with a usable slot
 module _ (d : Device) (slot : ℕ) (role : Role) (usable : Usable d slot role) where
-  pub no-slot-fault : (lengths : Bool) → lengths ≡ true → firstFault (checks d lengths (slotChecks d slot role)) ≡ 0
+  no-slot-fault : (lengths : Bool) → lengths ≡ true → firstFault (checks d lengths (slotChecks d slot role)) ≡ 0
   no-slot-fault lengths long =
       rw (usable .is-sound .1, long, usable .has-role, usable .holds-key, usable .unlocked, usable .fits) refl
 
@@ -78,23 +59,14 @@ unfolding threeBlocks right
 ecb-lengths x out hx ho = rw (hx, ho) refl
 
 cbc-lengths : (iv x out : List ℕ) (blocks : ℕ) → length iv ≡ 16 → length x ≡ 16 * blocks → 1 ≤ blocks → blocks ≤ 4096
-    → length out ≡ length x
-    → cbcLengths 16 (length iv) (length x) (length out) ≡ true
+    → length out ≡ length x → cbcLengths 16 (length iv) (length x) (length out) ≡ true
 unfolding cbcLengths
 cbc-lengths iv x out blocks hi hx low high ho =
     let whole : 16 * blocks % 16 ≡ 0 = omega arith in
     let least : 16 * 1 ≤ 16 * blocks = omega arith in
     let most : 16 * blocks ≤ 16 * 4096 = omega arith in
-    rw (
-      hi,
-      ho,
-      hx,
-      whole,
-      le-leb (16 * 1) (16 * blocks) least,
-      le-leb (16 * blocks) (16 * 4096) most,
-      eq-eqb (16 * blocks)
-          (16 * blocks) refl,
-    ) refl
+    let same = eq-eqb (16 * blocks) (16 * blocks) refl in
+    rw (hi, ho, hx, whole, le-leb (16 * 1) (16 * blocks) least, le-leb (16 * blocks) (16 * 4096) most, same) refl
 
 module _ (n : ℕ) (d : Device) (slot : ℕ) (usable : Usable d slot Cipher) where
   abbrev key : List ℕ
@@ -109,21 +81,21 @@ module _ (n : ℕ) (d : Device) (slot : ℕ) (usable : Usable d slot Cipher) whe
   deciphered : (x out : List ℕ) → length x ≡ 16 → length out ≡ 16 → step n d (dec-ecb slot x out) ≡ done d 0 (invCipher key x ∷ [])
   deciphered x out hx ho = step-done n d (dec-ecb slot x out) (no-slot-fault d slot Cipher usable _ (ecb-lengths x out hx ho))
 
-  pub there-and-back : (text a b : List ℕ) → Block text → length a ≡ 16 → length b ≡ 16
+  there-and-back : (text a b : List ℕ) → Block text → length a ≡ 16 → length b ≡ 16
       → step n d (dec-ecb slot (output (step n d (enc-ecb slot text a))) b) ≡ done d 0 (text ∷ [])
   there-and-back text a b ht ha hb =
       ap (λ (o : Outcome). step n d (dec-ecb slot (output o) b)) (enciphered text a (ht .long) ha)
       ∙ deciphered (cipher key text) b (inverses key hk .there .keeps text ht .long) hb
       ∙ ap (λ (out : List ℕ). done d 0 (out ∷ [])) (deciphers key text hk ht)
 
-  pub back-and-there : (text a b : List ℕ) → Block text → length a ≡ 16 → length b ≡ 16
+  back-and-there : (text a b : List ℕ) → Block text → length a ≡ 16 → length b ≡ 16
       → step n d (enc-ecb slot (output (step n d (dec-ecb slot text a))) b) ≡ done d 0 (text ∷ [])
   back-and-there text a b ht ha hb =
       ap (λ (o : Outcome). step n d (enc-ecb slot (output o) b)) (deciphered text a (ht .long) ha)
       ∙ enciphered (invCipher key text) b (inverses key hk .back .keeps text ht .long) hb
       ∙ ap (λ (out : List ℕ). done d 0 (out ∷ [])) (enciphers key text hk ht)
 
-  pub differ : (x y a b : List ℕ) → Block x → Block y → length a ≡ 16 → length b ≡ 16
+  differ : (x y a b : List ℕ) → Block x → Block y → length a ≡ 16 → length b ≡ 16
       → output (step n d (enc-ecb slot x a)) ≡ output (step n d (enc-ecb slot y b)) → x ≡ y
   differ x y a b hx hy ha hb e =
       let alike = sym (ap output (enciphered x a (hx .long) ha)) ∙ e ∙ ap output (enciphered y b (hy .long) hb) in
@@ -131,26 +103,26 @@ module _ (n : ℕ) (d : Device) (slot : ℕ) (usable : Usable d slot Cipher) whe
 
   module _ (iv text a b : List ℕ) (blocks : ℕ) (hi : Block iv) (ht : Text blocks text) (low : 1 ≤ blocks) (high : blocks ≤ 4096)
       (ha : length a ≡ length text) (hb : length b ≡ length text) where
-    chained-out : (x out : List ℕ) → Text blocks x → length out ≡ length x → step n d (enc-cbc slot iv x out)
-        ≡ done d 0 (cbcEncrypt (cipher key) iv x ∷ [])
-    chained-out x out hx ho =
-        step-done n d (enc-cbc slot iv x out) (no-slot-fault d slot Cipher usable _
-        (cbc-lengths iv x out blocks (hi .long) (hx .long) low high ho))
+    no-fault : (x out : List ℕ) → Text blocks x → length out ≡ length x
+        → firstFault (checks d (cbcLengths 16 (length iv) (length x) (length out)) (slotChecks d slot Cipher)) ≡ 0
+    no-fault x out hx ho = no-slot-fault d slot Cipher usable _ (cbc-lengths iv x out blocks (hi .long) (hx .long) low high ho)
 
-    unchained-out : (x out : List ℕ) → Text blocks x → length out ≡ length x → step n d (dec-cbc slot iv x out)
-        ≡ done d 0 (cbcDecrypt (invCipher key) iv x ∷ [])
-    unchained-out x out hx ho =
-        step-done n d (dec-cbc slot iv x out) (no-slot-fault d slot Cipher usable _
-        (cbc-lengths iv x out blocks (hi .long) (hx .long) low high ho))
+    chained-out : (x out : List ℕ) → Text blocks x → length out ≡ length x
+        → step n d (enc-cbc slot iv x out) ≡ done d 0 (cbcEncrypt (cipher key) iv x ∷ [])
+    chained-out x out hx ho = step-done n d (enc-cbc slot iv x out) (no-fault x out hx ho)
 
-    pub cbc-there-and-back : step n d (dec-cbc slot iv (output (step n d (enc-cbc slot iv text a))) b) ≡ done d 0 (text ∷ [])
+    unchained-out : (x out : List ℕ) → Text blocks x → length out ≡ length x
+        → step n d (dec-cbc slot iv x out) ≡ done d 0 (cbcDecrypt (invCipher key) iv x ∷ [])
+    unchained-out x out hx ho = step-done n d (dec-cbc slot iv x out) (no-fault x out hx ho)
+
+    cbc-there-and-back : step n d (dec-cbc slot iv (output (step n d (enc-cbc slot iv text a))) b) ≡ done d 0 (text ∷ [])
     cbc-there-and-back =
         let whole = cbc-encrypted key iv text blocks hk hi ht in
         ap (λ (o : Outcome). step n d (dec-cbc slot iv (output o) b)) (chained-out text a ht ha)
         ∙ unchained-out (cbcEncrypt (cipher key) iv text) b whole (hb ∙ ht .long ∙ sym (whole .long))
         ∙ ap (λ (out : List ℕ). done d 0 (out ∷ [])) (cbc-deciphers key iv text blocks hk hi ht)
 
-    pub cbc-back-and-there : step n d (enc-cbc slot iv (output (step n d (dec-cbc slot iv text a))) b) ≡ done d 0 (text ∷ [])
+    cbc-back-and-there : step n d (enc-cbc slot iv (output (step n d (dec-cbc slot iv text a))) b) ≡ done d 0 (text ∷ [])
     cbc-back-and-there =
         let whole = cbc-decrypted key iv text blocks hk hi ht in
         ap (λ (o : Outcome). step n d (enc-cbc slot iv (output o) b)) (unchained-out text a ht ha)
@@ -177,12 +149,9 @@ signs-verifies d slot usable = record {
 agrees-itself : (bits : ℕ) (mac : List ℕ) → macAgrees bits mac mac ≡ true
 unfolding macAgrees
 agrees-itself bits mac =
-    rw (
-      same-equal mac mac refl,
-      same-equal (take (bits / 8) mac) (take (bits / 8) mac) refl,
-      eq-eqb
-          (byte mac (bits / 8) / 2 ^ (8 - bits % 8)) _ refl,
-    ) (either-true (eqb bits 0))
+    let whole = same-equal (take (bits / 8) mac) (take (bits / 8) mac) refl in
+    let last = eq-eqb (byte mac (bits / 8) / 2 ^ (8 - bits % 8)) _ refl in
+    rw (same-equal mac mac refl, whole, last) (either-true (eqb bits 0))
   where
     either-true : (b : Bool) → cond b true true ≡ true
     either-true true = refl
@@ -192,21 +161,20 @@ module _ (n : ℕ) (d : Device) (slot bits : ℕ) (message : List ℕ) where
   abbrev mac : List ℕ
   mac = cmac (cipher (keyAt d slot)) bits message
 
-  pub signed-verifies : (a : List ℕ) (macbits : ℕ) → Usable d slot GenerateMac → cmacLengths 16 bits (length message) (length a)
-      ≡ true → macbits ≤ 127
+  signed-verifies : (a : List ℕ) (macbits : ℕ) → Usable d slot GenerateMac
+      → cmacLengths 16 bits (length message) (length a) ≡ true → macbits ≤ 127
       → step n d (verify-mac slot bits message (output (step n d (generate-mac slot bits message a))) macbits) ≡ done d yes-verdict []
   signed-verifies a macbits usable long few =
       let made = step-done n d (generate-mac slot bits message a) (no-slot-fault d slot GenerateMac usable _ long) in
+      let block = mac-block (keyAt d slot) bits message (key-block d slot (usable .is-sound .0)) in
+      let same = block .long ∙ sym (cmac-facts 16 bits (length message) (length a) long .3) in
       let long′ : (cmacLengths 16 bits (length message) (length mac) && leb macbits 127) ≡ true
-      = ap₂ (λ (x y : Bool). x && y)
-      (ap (cmacLengths 16 bits (length message)) (mac-block (keyAt d slot) bits message
-      (key-block d slot (usable .is-sound .0)) .long ∙ sym (cmac-facts 16 bits (length message) (length a) long .3)) ∙ long)
-      (le-leb macbits 127 few) in
+      = ap₂ (λ (x y : Bool). x && y) (ap (cmacLengths 16 bits (length message)) same ∙ long) (le-leb macbits 127 few) in
       ap (λ (o : Outcome). step n d (verify-mac slot bits message (output o) macbits)) made
       ∙ step-done n d (verify-mac slot bits message mac macbits) (no-slot-fault d slot VerifyMac (signs-verifies d slot usable) _ long′)
       ∙ ap (λ (yes : Bool). done d (boolByte yes) []) (agrees-itself macbits mac)
 
-  pub verdict : (given : List ℕ) (macbits : ℕ) → Sound d → Bytes given
+  verdict : (given : List ℕ) (macbits : ℕ) → Sound d → Bytes given
       → step n d (verify-mac slot bits message given macbits) .answer ≡ noError
       → (step n d (verify-mac slot bits message given macbits) .value ≡ yes-verdict) ↔ Agree (compared macbits) mac given
   verdict given macbits sound small zero =
@@ -215,8 +183,8 @@ module _ (n : ℕ) (d : Device) (slot bits : ℕ) (message : List ℕ) where
       let long = both (cmacLengths 16 bits (length message) (length given)) (leb macbits 127)
       (made-and-long d (request (verify-mac slot bits message given macbits) .lengths) _ none .1) in
       let block : Block given = record { long = cmac-facts 16 bits (length message) (length given) (long .0) .3; small = small } in
-      let exact = agrees-exactly macbits mac given (mac-block (keyAt d slot) bits message (key-block d slot (sound .0))) block
-      (leb-true macbits 127 (long .1)) in
+      let ours = mac-block (keyAt d slot) bits message (key-block d slot (sound .0)) in
+      let exact = agrees-exactly macbits mac given ours block (leb-true macbits 127 (long .1)) in
       (λ said. exact .0 (is-one (macAgrees macbits mac given) (sym done ∙ said)), λ agree. done ∙ ap boolByte (exact .1 agree))
     where
       is-one : (b : Bool) → boolByte b ≡ 1 → b ≡ true
@@ -225,7 +193,7 @@ module _ (n : ℕ) (d : Device) (slot bits : ℕ) (message : List ℕ) where
 
 pub demand-2 : (n : ℕ) → Demand2 n (step n)
 demand-2 n = record {
-  exact = exactly n;
+  exact = does n;
   ecb-undone = λ d slot text a b usable. there-and-back n d slot usable text a b;
   ecb-redone = λ d slot text a b usable. back-and-there n d slot usable text a b;
   cbc-undone = λ d slot iv text a b blocks usable. cbc-there-and-back n d slot usable iv text a b blocks;

@@ -86,7 +86,7 @@ module _ (machine : Machine) (demand : Demand2 flagCount machine) where
       let x : List ℕ = output (machine plain (dec-ecb ramKey text zeroBlock)) in
       let done = demand .ecb-redone plain ramKey text zeroBlock zeroBlock (plain-usable Cipher) text-block refl refl in
       let copied : x ≡ text = sym (sham plain ramKey x zeroBlock) ∙ ap output done in
-      let exact = demand .exact .enciphers plain ramKey x zeroBlock (ap (λ (o : Outcome). o .answer) done) in
+      let exact = demand .exact plain (enc-ecb ramKey x zeroBlock) (ap (λ (o : Outcome). o .answer) done) in
       let same : text ≡ cipher master text = ap output (sym done ∙ exact) ∙ ap₂ cipher plain-key copied in
       omega (arith, ap (λ (l : List ℕ). byte l 0) (same ∙ published-block))
 

@@ -117,23 +117,13 @@ module _ (n : ℕ) (few : n ≤ 100) (d : Device) (m1 m2 m3 b4 b5 : List ℕ) (s
     no-fault-found : found n d (load-key m1 m2 m3 b4 b5) ≡ 0
     no-fault-found =
         let r = good .rules in
-        rw (
-          back,
-          sound .1,
-          long,
-          r .pair,
-          r .writable,
-          not-another (isEmpty d a) a t
-              (r .present),
-          r .unlocked,
-          r .for-us,
-          r .rises,
-        ) refl
+        let here = not-another (isEmpty d a) a t (r .present) in
+        rw (back, sound .1, long, r .pair, r .writable, here, r .unlocked, r .for-us, r .rises) refl
 
     taken-so : step n d (load-key m1 m2 m3 b4 b5) ≡ taken d t a c f key
     taken-so = step-done n d (load-key m1 m2 m3 b4 b5) no-fault-found ∙ rw back refl
 
-    pub only-one : OnlyTarget d t (asKept t c f key) (step n d (load-key m1 m2 m3 b4 b5) .device)
+    only-one : OnlyTarget d t (asKept t c f key) (step n d (load-key m1 m2 m3 b4 b5) .device)
     only-one =
         subst (λ (o : Outcome). OnlyTarget d t (asKept t c f key) (o .device)) (sym taken-so)
         (puts-one d t c f key (sound .0) (pair-slots t a (good .rules .pair) .1) (good .carried .key-fits))

@@ -1,25 +1,35 @@
 -- The calls of a device: every command, reset and the bench call "debugger attached". What each asks, in which order its checks
--- come, and what it leaves.
+-- come, and what it does.
 -- Assumes nothing.
 use mathlib.Core.Bool.{Bool, true, false, not, _&&_}
-use mathlib.Core.List.{List, [], _∷_}
+use mathlib.Core.List.{List, [], _∷_, _++_}
+use mir.Val.{boolByte}
 use Prim.Native.Nat.{ℕ}
 use lib.Dec.{eqb, leb}
 use lib.ListN.{length}
 use Rattle.laws.specs.Lengths.{right}
+use Rattle.aes.specs.Cipher.{cipher, invCipher}
 use Rattle.modes.specs.Answer.{threeBlocks, cbcLengths, cmacLengths}
+use Rattle.modes.specs.Cbc.{cbcEncrypt, cbcDecrypt}
+use Rattle.modes.specs.Cmac.{cmac}
+use Rattle.modes.specs.Compression.{kdf}
+use Rattle.modes.specs.Constants.{constantOf}
+use Rattle.modes.specs.declared.Constant.the-variants.{PrngKey}
 use Rattle.message.specs.Building.{targetOf, authorityOf}
+use Rattle.message.specs.Messages.{m5}
 use Rattle.message.specs.declared.Role.the-variants.{Cipher, GenerateMac, VerifyMac}
 use Rattle.device.specs.Answers.{sequenceError, keyNotAvailable, rngSeed}
 use Rattle.device.specs.Checks.{checks}
-use Rattle.device.specs.Outcome.{Outcome}
-use Rattle.device.specs.Record.{masterEcuKey, isOn}
-use Rattle.device.specs.Rules.{locked}
+use Rattle.device.specs.Outcome.{Outcome, done}
+use Rattle.device.specs.Record.{secretKey, masterEcuKey, ramKey, off, on, isOn, keyAt, putSlot, setPlain, setDebugger, setRandom}
+use Rattle.device.specs.Rules.{locked, status}
 use Rattle.device.specs.declared.Device.{Device}
 use Rattle.commands.specs.Checks.{slotChecks}
 use Rattle.commands.specs.Commands as commands
-use Rattle.load.specs.Export.{exportChecks, exportRamKey}
-use Rattle.load.specs.Load.{fiveLengths, loadChecks, openedBy, loadKey}
+use Rattle.commands.specs.Commands.{afterReset, macAgrees, nextSeed, extended, nextState, identity, idMac}
+use Rattle.load.specs.Export.{exportChecks, exported, exported4, exportRamKey}
+use Rattle.load.specs.Load.{fiveLengths, loadChecks, openedBy, proof4, loadKey}
+use Rattle.load.specs.Rules.{loaded}
 
 -- with the numbers and buffers that it is given, those that it writes to last (M4 and M5 of a load, M1 to M5 of an export)
 pub data Call : Type 0 where
@@ -128,3 +138,32 @@ ownChecks n d (get-id challenge output) = (locked d masterEcuKey, keyNotAvailabl
 
 abbrev pub inOrder : ℕ → Device → Call → List (Bool × ℕ)
 inOrder n d call = checks d (request call .lengths) (ownChecks n d call)
+
+-- ---- what it does where no check finds fault, in the papers' terms: the device after it, the verdict or status, and the buffers
+-- that were lent
+abbrev pub success : ℕ → Device → Call → Device × ℕ × List (List ℕ)
+success n d reset = (afterReset d, 0, [])
+success n d attach-debugger = (setDebugger on d, 0, [])
+success n d (enc-ecb slot input output) = (d, 0, cipher (keyAt d slot) input ∷ [])
+success n d (dec-ecb slot input output) = (d, 0, invCipher (keyAt d slot) input ∷ [])
+success n d (enc-cbc slot iv input output) = (d, 0, cbcEncrypt (cipher (keyAt d slot)) iv input ∷ [])
+success n d (dec-cbc slot iv input output) = (d, 0, cbcDecrypt (invCipher (keyAt d slot)) iv input ∷ [])
+success n d (generate-mac slot bits message mac) = (d, 0, cmac (cipher (keyAt d slot)) bits message ∷ [])
+success n d (verify-mac slot bits message mac macbits) =
+    (d, boolByte (macAgrees macbits (cmac (cipher (keyAt d slot)) bits message) mac), [])
+success n d (load-key m1 m2 m3 b4 b5) =
+    let new = openedBy n d m1 m2 m3 in
+    (loaded d (targetOf m1) (new .counter) (new .flags) (new .key), 0, proof4 d m1 new ∷ m5 (new .key) (proof4 d m1 new) ∷ [])
+success n d (load-plain-key key) =
+    (putSlot ramKey (record { key = key; counter = 0; flags = 0; empty = off }) (setPlain on d), 0, [])
+success n d (export-ram-key b1 b2 b3 b4 b5) =
+    (d, 0, exported n d .m1 ∷ exported n d .m2 ∷ exported n d .m3 ∷ exported4 d ∷ m5 (keyAt d ramKey) (exported4 d) ∷ [])
+success n d init-rng = (setRandom (nextSeed d) (nextSeed d) (kdf (keyAt d secretKey) (constantOf PrngKey)) on d, 0, [])
+success n d (extend-seed entropy) =
+    (setRandom (extended (d .seed) entropy) (extended (d .state) entropy) (d .rngkey) (d .rng) d, 0, [])
+success n d (rnd output) = (setRandom (d .seed) (nextState d) (d .rngkey) (d .rng) d, 0, nextState d ∷ [])
+success n d get-status = (d, status d, [])
+success n d (get-id challenge output) = (d, 0, (identity d ++ idMac d (challenge ++ identity d)) ∷ [])
+
+abbrev pub finished : ℕ → Device → Call → Outcome
+finished n d call = done (success n d call .0) (success n d call .1) (success n d call .2)
