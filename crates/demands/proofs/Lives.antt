@@ -17,7 +17,7 @@ use Rattle.message.specs.Building.{uidOf, targetOf, authorityOf, Carried}
 use Rattle.message.specs.Flags.{flagCount, write, debugger}
 use Rattle.message.specs.Messages.{m1, m2, m3, m4, m5, Sent, build}
 use Rattle.message.specs.Slots.{counterKept}
-use Rattle.message.specs.Writer.{Messages, fullForm}
+use Rattle.message.specs.Writer.{Messages, fullForm, answerForm}
 use Rattle.message.proofs.Building.{m1-long, uid-of-m1, target-of-m1, authority-of-m1, m2-text, m3-block}
 use Rattle.message.proofs.Slots.{kept-0, kept-14, pair-slots}
 use Rattle.message.proofs.Written.{no-faults, is-written}
@@ -79,7 +79,7 @@ module _ (d : Device) (sound : Sound d) (uid key a1 a2 a3 : List ℕ) (t a c f :
   abbrev sheet : Messages
   sheet = fullForm uid t a (authorityKey d a) c f key a1 a2 a3
 
-  pub writer-loads : (b4 b5 : List ℕ) → length b4 ≡ 32 → length b5 ≡ 16 → sheet .answer ≡ noError
+  writer-loads : (b4 b5 : List ℕ) → length b4 ≡ 32 → length b5 ≡ 16 → sheet .answer ≡ noError
       → step flagCount d (load-key (sheet .m1) (sheet .m2) (sheet .m3) b4 b5) ≡ taken d t a c f key
   unfolding fullForm
   writer-loads b4 b5 h4 h5 zero =
@@ -94,6 +94,13 @@ module _ (d : Device) (sound : Sound d) (uid key a1 a2 a3 : List ℕ) (t a c f :
       ∙ ap (λ (z : List ℕ). call (good .m1) (good .m2) z) (sym (is-written (sheet .answer) (good .m3) a3 zero))
       ∙ built-loads flagCount (step flagCount) (demand-3 flagCount (omega arith)) d sound uid key t a c f
       (long 0) carried rules b4 b5 h4 h5
+
+foreseen : (d : Device) (key b4 b5 : List ℕ) (t a c f : ℕ) → answerForm (d .uid) t a c key b4 b5 .answer ≡ noError
+    → taken d t a c f key .buffers ≡ answerForm (d .uid) t a c key b4 b5 .m4 ∷ answerForm (d .uid) t a c key b4 b5 .m5 ∷ []
+unfolding answerForm
+foreseen d key b4 b5 t a c f zero =
+    let fourth : List ℕ = m4 (d .uid) t a (counterKept t c) key in
+    ap₂ (λ (x y : List ℕ). x ∷ y ∷ []) (is-written _ fourth b4 zero) (is-written _ (m5 key fourth) b5 zero)
 
 -- ---- SECRET_KEY has no flags, so is never locked, and RAM_KEY never has WRITE
 module _ (d : Device) (m : Made d) where
@@ -146,8 +153,8 @@ module _ (n : ℕ) (few : n ≤ 100) (d : Device) (sound : Sound d) (calls : Lis
       → step n e (load-key (exported n d .m1) (exported n d .m2) (exported n d .m3) b4 b5)
       ≡ taken e ramKey secretKey 0 0 (keyAt d ramKey)
   exported-again b4 b5 h4 h5 =
-      ap (λ (secret : List ℕ). let s = build n (d .uid) ramKey secretKey secret 0 0 (keyAt d ramKey) in step n e
-      (load-key (s .m1) (s .m2) (s .m3) b4 b5)) (sym secret-same)
+      let under : List ℕ → Sent = λ secret. build n (d .uid) ramKey secretKey secret 0 0 (keyAt d ramKey) in
+      ap (λ (secret : List ℕ). step n e (load-key (under secret .m1) (under secret .m2) (under secret .m3) b4 b5)) (sym secret-same)
       ∙ built-loads n (step n) (demand-3 n few) e sound-e (d .uid) (keyAt d ramKey) ramKey secretKey 0 0 (sound .0 .uid)
       (record { counter-fits = omega arith; flags-fit = pow-pos n; key-fits = ram-block }) ram-rules b4 b5 h4 h5
 
@@ -175,7 +182,7 @@ module _ (n : ℕ) (few : n ≤ 100) (d : Device) (sound : Sound d) (calls : Lis
         ap (λ (u : List ℕ). let fourth = m4 u ramKey secretKey 0 (keyAt d ramKey) in fourth ∷ m5 (keyAt d ramKey) fourth ∷ []) uid-same
         ∙ ap₂ (λ (x y : List ℕ). x ∷ y ∷ []) (sym (part 3)) (sym (part 4))
 
-    pub comes-back : (step n e (load-key one two three c4 c5) .answer ≡ noError)
+    comes-back : (step n e (load-key one two three c4 c5) .answer ≡ noError)
         × (step n e (load-key one two three c4 c5) .buffers ≡ four ∷ five ∷ [])
         × (slotAt (step n e (load-key one two three c4 c5) .device) ramKey ≡ asKept ramKey 0 0 (keyAt d ramKey))
         × (step n e (load-key one two three c4 c5) .device .plain ≡ off)
@@ -190,7 +197,9 @@ module _ (n : ℕ) (few : n ≤ 100) (d : Device) (sound : Sound d) (calls : Lis
 
 pub lives : Liveness (step flagCount)
 lives = record {
-  written-loads = λ d uid key a1 a2 a3 b4 b5 t a c f sound small h4 h5 rules. writer-loads d sound uid key a1 a2 a3 t a c f small rules b4 b5 h4 h5;
+  written-loads = λ d uid key a1 a2 a3 b4 b5 t a c f sound small h4 h5 rules.
+      writer-loads d sound uid key a1 a2 a3 t a c f small rules b4 b5 h4 h5;
+  answer-foreseen = foreseen;
   exported-loads = λ d b1 b2 b3 b4 b5 m1 m2 m3 m4 m5 c4 c5 calls sound bytes.
       comes-back flagCount (omega arith) d sound calls bytes b1 b2 b3 b4 b5 m1 m2 m3 m4 m5 c4 c5;
 }

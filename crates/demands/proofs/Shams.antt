@@ -37,7 +37,7 @@ use Rattle.demands.specs.Demand2.{first, output, Demand2}
 use Rattle.demands.specs.Demand3.{Demand3}
 use Rattle.demands.specs.Shams.{RefusesEveryLoad, OneBlockForAll, StoresNothing, ProvesNothing, OnlyTheFirst, MasksSlots, TakesAnyLength, ClearsFirst, Copies, SaysYes, TakesReplays}
 use Rattle.demands.specs.Witness.{master, door, board, keyed, fitted, plain, toKey1, key1, load, text, ciphertext}
-use Rattle.demands.proofs.Witness.{master-loads, key1-loads, plain-sound, plain-usable, master-block, door-carried, fitted-sound, second, third}
+use Rattle.demands.proofs.Witness.{master-loads, key1-loads, plain-sound, plain-usable, master-block, door-carried, fitted-sound, board-sound, key1-m2, key1-m3}
 use Rattle.demands.proofs.First.{making}
 
 text-block : Block text
@@ -63,7 +63,7 @@ module _ (machine : Machine) (demand : Demand1 flagCount machine) where
       omega (arith, sym none ∙ ap (λ (o : Outcome). o .answer) (sham plain 0x1e text out) ∙ zero)
 
   pub not-any-length : TakesAnyLength machine → ⊥
-  not-any-length sham = omega (arith, sym (demand .wrong-length board (load-plain-key []) refl) ∙ sham board [])
+  not-any-length sham = omega (arith, sym (demand .wrong-length board (load-plain-key []) refl) ∙ sham board [] (board-sound .1))
 
   pub not-clearing-first : ClearsFirst machine → ⊥
   not-clearing-first sham =
@@ -97,8 +97,8 @@ module _ (machine : Machine) (first : Demand1 flagCount machine) (second : Deman
   not-saying-yes sham =
       let other : List ℕ = 0x80 ∷ replicate 15 0 in
       let call : List ℕ → Call = λ mac. verify-mac ramKey 0 zeroBlock mac 0 in
-      let zero : machine plain (call zeroBlock) .answer ≡ noError = first .by-the-order plain (call zeroBlock)
-      ∙ rw (plain-sound .1) refl in
+      let zero : machine plain (call zeroBlock) .answer ≡ noError
+      = first .by-the-order plain (call zeroBlock) ∙ rw (plain-sound .1) refl in
       let zero′ : machine plain (call other) .answer ≡ noError = first .by-the-order plain (call other) ∙ rw (plain-sound .1) refl in
       let agree = second .yes-means plain ramKey 0 zeroBlock zeroBlock 0 plain-sound (zero-block .small) zero .0
       (sham plain ramKey 0 zeroBlock zeroBlock 0 zero) in
@@ -146,7 +146,7 @@ module _ (machine : Machine) (demand : Demand3 flagCount machine) where
       let again = subst (λ (d : Device). machine d (load toKey1) .answer ≡ noError) (ap (λ (o : Outcome). o .device) once)
       (sham keyed _ _ _ _ _ (ap (λ (o : Outcome). o .answer) once)) in
       let some = demand .loading fitted (toKey1 .m1) (toKey1 .m2) (toKey1 .m3) (replicate 32 0) (replicate 16 0) fitted-sound
-      (second .small) (rw (second .long, third .long) refl) .exactly-when .0 again in
-      let same = parts-unique flagCount (omega arith) master (toKey1 .m1) (toKey1 .m2) (toKey1 .m3) master-block refl second
-      (third .long) (some .0) (some .1) 1 0 (some .2) door (some .3 .carried) door-carried (some .3 .built) refl .0 in
+      (key1-m2 .small) (rw (key1-m2 .long, key1-m3 .long) refl) .exactly-when .0 again in
+      let same = parts-unique flagCount (omega arith) master (toKey1 .m1) (toKey1 .m2) (toKey1 .m3) master-block refl key1-m2
+      (key1-m3 .long) (some .0) (some .1) 1 0 (some .2) door (some .3 .carried) door-carried (some .3 .built) refl .0 in
       false≢true (sym stale ∙ subst (λ (c : ℕ). counterRises fitted key1 c ≡ true) same (some .3 .rules .rises))

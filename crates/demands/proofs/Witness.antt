@@ -103,22 +103,22 @@ unfolding loadKey loadAnswer decided right m1 allowed made slotsFine slotFine sa
 mispaired-refused = refl
 
 -- ---- and the same message again
-pub second : Text 2 (toKey1 .m2)
-second = m2-text master master-block flagCount 1 0 door door-block
+pub key1-m2 : Text 2 (toKey1 .m2)
+key1-m2 = m2-text master master-block flagCount 1 0 door door-block
 
-pub third : Block (toKey1 .m3)
-third = m3-block master master-block (toKey1 .m1) (toKey1 .m2)
+pub key1-m3 : Block (toKey1 .m3)
+key1-m3 = m3-block master master-block (toKey1 .m1) (toKey1 .m2)
 
 opens-again : openedBy flagCount fitted (toKey1 .m1) (toKey1 .m2) (toKey1 .m3)
     ≡ record { genuine = true; counter = 1; flags = 0; zeros = true; key = door }
 unfolding m1 authorityKey loaded putSlot blockAt tabulate
 opens-again =
-    handed-back flagCount (omega arith) master (toKey1 .m1) (toKey1 .m2) (toKey1 .m3) master-block refl second (third .long) 1 0 door
+    handed-back flagCount (omega arith) master (toKey1 .m1) (toKey1 .m2) (toKey1 .m3) master-block refl key1-m2 (key1-m3 .long) 1 0 door
     door-carried refl
 
 pub replay-refused : step flagCount fitted (load toKey1) .answer ≡ keyUpdateError
 unfolding m1 right allowed rowOf loaded putSlot kept flagsKept counterKept locked isForUs same counterRises
-replay-refused = answer-found flagCount fitted (load toKey1) ∙ rw (fitted-sound .1, second .long, third .long, opens-again) refl
+replay-refused = answer-found flagCount fitted (load toKey1) ∙ rw (fitted-sound .1, key1-m2 .long, key1-m3 .long, opens-again) refl
 
 -- ---- a plain RAM key, which can be used for everything
 pub plain-sound : Sound plain

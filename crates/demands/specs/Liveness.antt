@@ -6,7 +6,7 @@ use Prim.Native.Nat.{ℕ}
 use lib.ListN.{length}
 use Rattle.aes.specs.State.{Bytes}
 use Rattle.modes.specs.Answer.{noError}
-use Rattle.message.specs.Writer.{fullForm}
+use Rattle.message.specs.Writer.{fullForm, answerForm}
 use Rattle.device.specs.Made.{Sound}
 use Rattle.device.specs.Outcome.{done}
 use Rattle.device.specs.Record.{ramKey, off, keyAt, slotAt}
@@ -23,6 +23,10 @@ pub record Liveness (machine : Machine) : Type 0 where
       → let written = fullForm uid target authority (authorityKey d authority) counter flags key a1 a2 a3 in
       written .answer ≡ noError
       → machine d (load-key (written .m1) (written .m2) (written .m3) b4 b5) ≡ taken d target authority counter flags key
+  -- and the M4 and M5 that the sender's side foresees for a device are those that it leaves
+  pub answer-foreseen : (d : Device) (key b4 b5 : List ℕ) (target authority counter flags : ℕ)
+      → let foreseen = answerForm (d .uid) target authority counter key b4 b5 in
+      foreseen .answer ≡ noError → taken d target authority counter flags key .buffers ≡ foreseen .m4 ∷ foreseen .m5 ∷ []
   -- what was exported loads on this device after any calls, resets or others, and gives that key back, not plain
   pub exported-loads : (d : Device) (b1 b2 b3 b4 b5 m1 m2 m3 m4 m5 c4 c5 : List ℕ) (calls : List Call) → Sound d → InBytes calls
       → length c4 ≡ 32 → length c5 ≡ 16

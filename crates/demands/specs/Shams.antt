@@ -1,11 +1,12 @@
 -- Sham devices: machines that do one thing wrong, whatever else they do. The theorems are that none of them meets the demands.
 -- Assumes nothing.
 use mathlib.Core.Path.{_≡_}
-use mathlib.Core.Bool.{false}
+use mathlib.Core.Bool.{true, false}
 use mathlib.Core.List.{List, [], _∷_}
 use Prim.Native.Nat.{ℕ, _%_}
 use lib.ListN.{length, replicate}
 use Rattle.modes.specs.Answer.{noError}
+use Rattle.device.specs.Made.{made}
 use Rattle.device.specs.Record.{masterEcuKey, isEmpty}
 use Rattle.device.specs.declared.Device.{Device}
 use Rattle.demands.specs.Calls.{enc-ecb, verify-mac, load-key, load-plain-key, Machine}
@@ -42,7 +43,7 @@ MasksSlots machine = (d : Device) (slot : ℕ) (text out : List ℕ)
 
 -- it takes a plain key of any length
 abbrev pub TakesAnyLength : Machine → Type 0
-TakesAnyLength machine = (d : Device) (key : List ℕ) → machine d (load-plain-key key) .answer ≡ noError
+TakesAnyLength machine = (d : Device) (key : List ℕ) → made d ≡ true → machine d (load-plain-key key) .answer ≡ noError
 
 -- it clears the output before it looks at anything
 abbrev pub ClearsFirst : Machine → Type 0
