@@ -1,3 +1,4 @@
 pub mod Agreement
+pub mod Making
 pub mod Passed
 pub mod Sound

@@ -1,4 +1,4 @@
--- Every command keeps a made device made, and making makes one.
+-- Every command keeps a made device made.
 -- Assumes nothing.
 use mathlib.Core.Path.{_≡_, refl, sym, ap, _∙_, subst}
 use mathlib.Core.Bool.{Bool, true, not, _&&_, _||_}
@@ -8,38 +8,25 @@ use native.Mathlib.Omega.{arith}
 use borrow.Author.Tests.{eqb-true, not-false}
 use lib.Dec.{eqb}
 use lib.ListN.{length}
-use Rattle.laws.specs.Lengths.{right}
 use Rattle.laws.specs.Ranges.{rowOf}
 use Rattle.laws.specs.Same.{same}
-use Rattle.laws.proofs.Lengths.{each-right}
 use Rattle.aes.specs.State.{Bytes, Block}
 use Rattle.aes.proofs.Bytes.{zero-block}
 use Rattle.modes.specs.Blocks.{zeroBlock}
 use Rattle.message.specs.Slots.{flagsKept, counterKept}
 use Rattle.message.proofs.Faults.{no-fault}
 use Rattle.device.specs.Answers.{rngSeed}
-use Rattle.device.specs.Made.{isMark, zeroUid, slotFine, blank, fresh, Sound}
-use Rattle.device.specs.Outcome.{Outcome, done}
+use Rattle.device.specs.Made.{isMark, slotFine, Sound}
+use Rattle.device.specs.Outcome.{done}
 use Rattle.device.specs.Record.{secretKey, ramKey, off, on, isOn, putSlot, setPlain, setDebugger, setRandom, Shaped}
 use Rattle.device.specs.Rules.{kept}
 use Rattle.device.specs.declared.Device.{Device}
 use Rattle.device.specs.declared.Slot.{Slot}
-use Rattle.device.proofs.Made.{Made, facts, is-made, debugger-set, random-set, made-ready, put-sound, empty-there, empty-elsewhere, fresh-sound}
-use Rattle.device.proofs.Outcome.{is-done, either-way, same-answer, made-and-long}
+use Rattle.device.proofs.Made.{Made, facts, is-made, debugger-set, random-set, made-ready, put-sound, empty-there, empty-elsewhere}
+use Rattle.device.proofs.Outcome.{either-way, made-and-long}
 use Rattle.commands.specs.Checks.{otherAnswer}
-use Rattle.commands.specs.Commands.{makeAnswer, make, reset, attachDebugger, encEcb, decEcb, encCbc, decCbc, generateMac, verifyMac, loadPlainKey, initRng, extendSeed, rnd, getStatus, getId}
+use Rattle.commands.specs.Commands.{reset, attachDebugger, encEcb, decEcb, encCbc, decCbc, generateMac, verifyMac, loadPlainKey, initRng, extendSeed, rnd, getStatus, getId}
 use Rattle.commands.proofs.Passed.{other-lengths}
-
--- ---- making
-pub make-sound : (uid secret seed : List ℕ) → Bytes secret → make uid secret seed .answer ≡ 0 → Sound (make uid secret seed .device)
-unfolding make makeAnswer
-make-sound uid secret seed small h =
-    let zero = sym (same-answer (makeAnswer uid (length secret) (length seed)) blank [] (done (fresh uid secret seed) 0 []) refl) ∙ h in
-    let one = no-fault (not (right ((length uid, 15) ∷ (length secret, 16) ∷ (length seed, 16) ∷ []))) 12 _ (λ z. omega arith) zero in
-    let two = no-fault (same uid zeroUid) 12 0 (λ z. omega arith) (one .1) in
-    let long = each-right _ (not-false _ (one .0)) in
-    subst (λ (o : Outcome). Sound (o .device)) (is-done _ _ blank [] (done (fresh uid secret seed) 0 []) refl zero)
-    (fresh-sound uid seed (long 0) secret (record { long = long 1; small = small }) (two .0))
 
 -- EXTEND_SEED and RND succeed where random numbers are initialised
 is-initialised : (d : Device) (lengths : Bool) → otherAnswer d lengths ((not (isOn (d .rng)), rngSeed) ∷ []) ≡ 0 → isOn (d .rng) ≡ true

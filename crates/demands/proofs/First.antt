@@ -1,35 +1,31 @@
 -- The first demand holds of the device.
 -- Assumes nothing.
-use mathlib.Core.Path.{_≡_, refl, sym, ap, ap₂, _∙_, subst, subst⁻¹}
-use mathlib.Core.Bool.{Bool, true, false, not, cond, false≢true}
-use mathlib.Core.List.{List, [], _∷_}
+use mathlib.Core.Path.{_≡_, refl, sym, ap, _∙_, subst, subst⁻¹}
+use mathlib.Core.Bool.{Bool, true, false, not, false≢true}
+use mathlib.Core.List.{[], _∷_}
 use mathlib.Core.Logic.{_⊎_, inl, inr, ⊎-elim}
 use Prim.Native.Nat.{ℕ, _≤_, _<_}
 use native.Mathlib.Omega.{arith}
-use borrow.Author.Tests.{not-false}
 use lib.ListN.{length}
 use Rattle.laws.specs.Among.{Among}
 use Rattle.laws.specs.Lengths.{right}
 use Rattle.laws.specs.Same.{same}
 use Rattle.laws.proofs.Lengths.{each-right}
-use Rattle.laws.proofs.Same.{same-equal, equal-same}
-use Rattle.modes.specs.Answer.{noError, generalError}
+use Rattle.laws.proofs.Same.{same-equal}
 use Rattle.message.specs.Answer.{keyInvalid, firstFault}
 use Rattle.message.specs.Building.{targetOf, authorityOf}
 use Rattle.message.specs.Slots.{allowed}
 use Rattle.message.specs.declared.Role.{Role}
 use Rattle.message.specs.declared.Role.the-variants.{Cipher, GenerateMac, VerifyMac}
-use Rattle.message.proofs.Faults.{no-fault}
 use Rattle.message.proofs.Slots.{role-15, pair-slots}
-use Rattle.device.specs.Checks.{checks}
-use Rattle.device.specs.Made.{zeroUid, made, blank, fresh, Sound}
+use Rattle.device.specs.Made.{zeroUid, made, blank}
 use Rattle.device.specs.Outcome.{Outcome, refused, done}
 use Rattle.device.specs.Record.{ramKey}
 use Rattle.device.specs.declared.Device.{Device}
-use Rattle.device.proofs.Outcome.{is-refused, is-done, same-answer}
+use Rattle.device.proofs.Outcome.{not-made, not-long, then-own}
 use Rattle.commands.specs.Checks.{slotChecks}
-use Rattle.commands.specs.Commands.{makeAnswer, make}
-use Rattle.commands.proofs.Sound.{make-sound}
+use Rattle.commands.specs.Commands.{make}
+use Rattle.commands.proofs.Making.{make-passed, make-passes, make-refused, make-done, make-sound}
 use Rattle.demands.specs.Calls.{Call, reset, attach-debugger, enc-ecb, dec-ecb, enc-cbc, dec-cbc, generate-mac, verify-mac, load-key, load-plain-key, export-ram-key, init-rng, extend-seed, rnd, get-status, get-id, step, request, ownChecks}
 use Rattle.demands.specs.Demand1.{table, Demand1, Making}
 use Rattle.demands.proofs.Steps.{answer-found, in-table, step-refused}
@@ -72,26 +68,14 @@ module _ (n : ℕ) (d : Device) where
   own-refuse get-status s named high = absurd named
   own-refuse (get-id challenge output) s named high = absurd named
 
-  -- the first two checks
-  first-two : (lengths : Bool) (own : List (Bool × ℕ)) (m l : Bool) → made d ≡ m → lengths ≡ l
-      → firstFault (checks d lengths own) ≡ cond (not m) generalError (cond (not l) generalError (firstFault own))
-  first-two lengths own m l e h = ap₂ (λ (x y : Bool). cond (not x) generalError (cond (not y) generalError (firstFault own))) e h
-
-  either-12 : (m : Bool) (rest : ℕ) → cond (not m) generalError (cond (not false) generalError rest) ≡ generalError
-  either-12 true rest = refl
-  either-12 false rest = refl
-
 pub demand-1 : (n : ℕ) → Demand1 n (step n)
 demand-1 n = record {
   from-the-table = λ d call. subst⁻¹ (λ (answer : ℕ). Among answer table) (answer-found n d call) (in-table n d call);
   by-the-order = λ d call. answer-found n d call;
-  not-made = λ d call unmade. answer-found n d call ∙ first-two n d (request call .lengths) (ownChecks n d call) false _ unmade refl;
-  wrong-length = λ d call wrong.
-      answer-found n d call ∙ first-two n d (request call .lengths) (ownChecks n d call) (made d) false refl wrong
-      ∙ either-12 n d (made d) (firstFault (ownChecks n d call));
+  not-made = λ d call unmade. answer-found n d call ∙ not-made d (request call .lengths) (ownChecks n d call) unmade;
+  wrong-length = λ d call wrong. answer-found n d call ∙ not-long d (request call .lengths) (ownChecks n d call) wrong;
   no-such-slot = λ d call slot is-made long named high.
-      answer-found n d call ∙ first-two n d (request call .lengths) (ownChecks n d call) true true is-made long
-      ∙ own-refuse n d call slot named high;
+      answer-found n d call ∙ then-own d (request call .lengths) (ownChecks n d call) is-made long ∙ own-refuse n d call slot named high;
   refusal-changes-nothing = λ d call fault.
       step-refused n d call (λ zero. fault (answer-found n d call ∙ zero))
       ∙ ap (λ (answer : ℕ). refused answer d (request call .lent)) (sym (answer-found n d call));
@@ -104,45 +88,6 @@ step-unmade n d call unmade =
     ap (λ (o : Outcome). o .device) (demand-1 n .refusal-changes-nothing d call (λ none. omega (arith, sym twelve ∙ none)))
 
 -- ---- making
-module _ (uid secret seed : List ℕ) where
-  abbrev lengths : Bool
-  lengths = right ((length uid, 15) ∷ (length secret, 16) ∷ (length seed, 16) ∷ [])
-
-  answer-is : make uid secret seed .answer ≡ makeAnswer uid (length secret) (length seed)
-  unfolding make
-  answer-is = same-answer (makeAnswer uid (length secret) (length seed)) blank [] (done (fresh uid secret seed) 0 []) refl
-
-  no-faults : make uid secret seed .answer ≡ noError → (lengths ≡ true) × (same uid zeroUid ≡ false)
-  unfolding makeAnswer
-  no-faults zero =
-      let one = no-fault (not lengths) generalError _ (λ z. omega arith) (sym answer-is ∙ zero) in
-      (not-false lengths (one .0), no-fault (same uid zeroUid) generalError noError (λ z. omega arith) (one .1) .0)
-
-  faultless : length uid ≡ 15 → length secret ≡ 16 → length seed ≡ 16 → (uid ≡ zeroUid → ⊥) → make uid secret seed .answer ≡ noError
-  unfolding makeAnswer right
-  faultless hu hk hs other = answer-is ∙ rw (hu, hk, hs, differs (same uid zeroUid) refl) refl
-    where
-      differs : (b : Bool) → same uid zeroUid ≡ b → b ≡ false
-      differs true e = absurd (other (equal-same uid zeroUid e))
-      differs false e = refl
-
-  refusal : (make uid secret seed .answer ≡ noError → ⊥) → make uid secret seed ≡ refused generalError blank []
-  unfolding make makeAnswer
-  refusal fault =
-      let twelve = either-fault (not lengths) (same uid zeroUid) (λ zero. fault (answer-is ∙ zero)) in
-      sym (is-refused generalError (makeAnswer uid (length secret) (length seed)) blank [] (done (fresh uid secret seed) 0 [])
-      (sym twelve) (λ z. omega arith))
-    where
-      either-fault : (a b : Bool) → (cond a generalError (cond b generalError noError) ≡ 0 → ⊥)
-          → cond a generalError (cond b generalError noError) ≡ generalError
-      either-fault true b h = refl
-      either-fault false true h = refl
-      either-fault false false h = absurd (h refl)
-
-  made-so : make uid secret seed .answer ≡ noError → make uid secret seed ≡ done (fresh uid secret seed) 0 []
-  unfolding make
-  made-so zero = sym (is-done _ _ blank [] (done (fresh uid secret seed) 0 []) refl (sym answer-is ∙ zero))
-
 blank-unmade : made blank ≡ false
 unfolding made
 blank-unmade = refl
@@ -150,14 +95,12 @@ blank-unmade = refl
 pub making : Making make
 making = record {
   exactly-when = λ uid secret seed. (
-    λ zero. let ok = no-faults uid secret seed zero in
+    λ zero. let ok = make-passed uid secret seed zero in
         let each = each-right _ (ok .0) in
         (each 0, each 1, each 2, λ none. false≢true (sym (ok .1) ∙ same-equal uid zeroUid none)),
-    λ ok. faultless uid secret seed (ok .0) (ok .1) (ok .2) (ok .3),
+    λ ok. make-passes uid secret seed (ok .0) (ok .1) (ok .2) (ok .3),
   );
-  makes = λ uid secret seed small zero.
-      let new = made-so uid secret seed zero in
-      (new, subst (λ (o : Outcome). Sound (o .device)) new (make-sound uid secret seed small zero));
-  blank-otherwise = refusal;
+  makes = λ uid secret seed small zero. (make-done uid secret seed zero, make-sound uid secret seed small zero);
+  blank-otherwise = make-refused;
   blank-is-not-made = blank-unmade;
 }

@@ -5,17 +5,16 @@ use mathlib.Core.Bool.{Bool, true, false, cond, _&&_}
 use mathlib.Core.List.{List, [], _∷_}
 use mathlib.Core.Logic.{_↔_}
 use mir.Val.{boolByte}
-use Prim.Native.Nat.{ℕ, _-_, _*_, _/_, _%_, _^_, _≤_}
+use Prim.Native.Nat.{ℕ, _-_, _*_, _%_, _≤_}
 use native.Mathlib.Omega.{arith}
 use borrow.Author.Tests.{le-leb, eq-eqb, leb-true}
 use lib.Dec.{eqb, leb}
-use lib.ListN.{length, take}
+use lib.ListN.{length}
 use Rattle.laws.specs.Lengths.{right}
 use Rattle.laws.specs.Ranges.{within, rowOf}
-use Rattle.laws.proofs.Same.{same-equal}
 use Rattle.laws.proofs.Test.{both}
 use Rattle.aes.specs.Cipher.{cipher, invCipher}
-use Rattle.aes.specs.State.{byte, Bytes, Block}
+use Rattle.aes.specs.State.{Bytes, Block}
 use Rattle.aes.proofs.RoundTrip.{inverses, deciphers, enciphers}
 use Rattle.modes.specs.Answer.{noError, threeBlocks, cbcLengths, cmacLengths}
 use Rattle.modes.specs.Blocks.{blocks, Text}
@@ -145,18 +144,6 @@ signs-verifies d slot usable = record {
     also true x h = refl
     also false x h = h
 
--- a MAC agrees with itself, in any number of bits
-agrees-itself : (bits : ℕ) (mac : List ℕ) → macAgrees bits mac mac ≡ true
-unfolding macAgrees
-agrees-itself bits mac =
-    let whole = same-equal (take (bits / 8) mac) (take (bits / 8) mac) refl in
-    let last = eq-eqb (byte mac (bits / 8) / 2 ^ (8 - bits % 8)) _ refl in
-    rw (same-equal mac mac refl, whole, last) (either-true (eqb bits 0))
-  where
-    either-true : (b : Bool) → cond b true true ≡ true
-    either-true true = refl
-    either-true false = refl
-
 module _ (n : ℕ) (d : Device) (slot bits : ℕ) (message : List ℕ) where
   abbrev mac : List ℕ
   mac = cmac (cipher (keyAt d slot)) bits message
@@ -172,7 +159,7 @@ module _ (n : ℕ) (d : Device) (slot bits : ℕ) (message : List ℕ) where
       = ap₂ (λ (x y : Bool). x && y) (ap (cmacLengths 16 bits (length message)) same ∙ long) (le-leb macbits 127 few) in
       ap (λ (o : Outcome). step n d (verify-mac slot bits message (output o) macbits)) made
       ∙ step-done n d (verify-mac slot bits message mac macbits) (no-slot-fault d slot VerifyMac (signs-verifies d slot usable) _ long′)
-      ∙ ap (λ (yes : Bool). done d (boolByte yes) []) (agrees-itself macbits mac)
+      ∙ ap (λ (yes : Bool). done d (boolByte yes) []) (agrees-exactly macbits mac mac block block few .1 (λ i l. refl))
 
   verdict : (given : List ℕ) (macbits : ℕ) → Sound d → Bytes given
       → step n d (verify-mac slot bits message given macbits) .answer ≡ noError

@@ -13,9 +13,9 @@ use Rattle.laws.proofs.Lengths.{each-right}
 use Rattle.aes.specs.State.{Bytes, Block}
 use Rattle.modes.specs.Answer.{noError}
 use Rattle.modes.specs.Blocks.{Text}
-use Rattle.message.specs.Building.{uidOf, targetOf, authorityOf}
+use Rattle.message.specs.Building.{targetOf, authorityOf}
 use Rattle.message.specs.declared.Opened.{Opened}
-use Rattle.message.proofs.Building.{opens, handed-back, parts-unique}
+use Rattle.message.proofs.Building.{handed-back, parts-unique}
 use Rattle.message.proofs.Slots.{pair-slots}
 use Rattle.device.specs.Made.{Sound}
 use Rattle.device.specs.Outcome.{Outcome}
@@ -23,11 +23,10 @@ use Rattle.device.specs.Record.{isEmpty, withSlot, setPlain, Shaped}
 use Rattle.device.specs.declared.Device.{Device}
 use Rattle.device.proofs.Slots.{put-fits, that-slot, other-slot}
 use Rattle.load.specs.Load.{fiveLengths, loadAnswer, openedBy}
-use Rattle.load.specs.Rules.{authorityKey, plainAfter, loaded}
-use Rattle.load.proofs.Loading.{guarded, accepted}
-use Rattle.load.proofs.Sound.{all-guards, all-checks, authority-block}
+use Rattle.load.specs.Rules.{authorityKey, plainAfter, loaded, asKept}
+use Rattle.load.proofs.Sound.{authority-block, succeeded}
 use Rattle.demands.specs.Calls.{load-key, step}
-use Rattle.demands.specs.Demand3.{Loads, asKept, OnlyTarget, taken, LoadsExactly}
+use Rattle.demands.specs.Demand3.{Loads, OnlyTarget, taken, LoadsExactly}
 use Rattle.demands.proofs.Steps.{found, answer-found, step-done}
 
 -- ---- a load puts one slot and nothing else
@@ -91,21 +90,17 @@ module _ (n : ℕ) (few : n ≤ 100) (d : Device) (m1 m2 m3 b4 b5 : List ℕ) (s
   pub succeeds : step n d (load-key m1 m2 m3 b4 b5) .answer ≡ noError → Loads n d m1 m2 m3 (new .counter) (new .flags) (new .key)
   unfolding loadAnswer
   succeeds zero =
-      let lengths : Bool = right (fiveLengths (length m1) (length m2) (length m3) (length b4) (length b5)) in
-      let none = sym (answer-found n d (load-key m1 m2 m3 b4 b5)) ∙ zero in
-      let g = guarded d lengths t a (all-guards d lengths m1 new none) in
-      let m = accepted d t (uidOf m1) new (all-checks d lengths m1 new none) in
-      let parts = opens n few secret m1 m2 m3 hs h1 h2 h3 (m .genuine) (m .zeros) in
+      let s = succeeded n few d (sound .0) m1 m2 m3 b4 b5 small (sym (answer-found n d (load-key m1 m2 m3 b4 b5)) ∙ zero) in
       record {
-        carried = parts .0;
-        built = parts .1;
+        carried = s .carried;
+        built = s .built;
         rules = record {
-          pair = g .pair;
-          writable = g .writable;
-          present = itself (isEmpty d a) a t (g .present);
-          unlocked = g .unlocked;
-          for-us = m .for-us;
-          rises = m .rises;
+          pair = s .guard .pair;
+          writable = s .guard .writable;
+          present = itself (isEmpty d a) a t (s .guard .present);
+          unlocked = s .guard .unlocked;
+          for-us = s .message .for-us;
+          rises = s .message .rises;
         };
       }
 

@@ -18,12 +18,12 @@ use Rattle.message.specs.Messages.{sent, build, m4, m5}
 use Rattle.message.specs.Slots.{allowed, counterKept}
 use Rattle.device.specs.Made.{made, Sound}
 use Rattle.device.specs.Outcome.{Outcome, done}
-use Rattle.device.specs.Record.{secretKey, off, isEmpty, counterAt, flagsAt, slotAt}
-use Rattle.device.specs.Rules.{hasFlag, kept, locked}
+use Rattle.device.specs.Record.{secretKey, isEmpty, counterAt, flagsAt, slotAt}
+use Rattle.device.specs.Rules.{hasFlag, locked}
 use Rattle.device.specs.declared.Device.{Device}
 use Rattle.device.specs.declared.Slot.{Slot}
 use Rattle.load.specs.Load.{fiveLengths}
-use Rattle.load.specs.Rules.{authorityKey, isForUs, counterRises, plainAfter, loaded}
+use Rattle.load.specs.Rules.{authorityKey, isForUs, counterRises, plainAfter, asKept, loaded}
 use Rattle.demands.specs.Calls.{Call, Machine, load-key}
 use Rattle.demands.specs.Runs.{run, after, loadsOf, InBytes}
 
@@ -43,10 +43,6 @@ pub record Loads (n : ℕ) (d : Device) (m1 m2 m3 : List ℕ) (counter flags : �
   pub carried : Carried n counter flags key
   pub built : build n (uidOf m1) (targetOf m1) (authorityOf m1) (authorityKey d (authorityOf m1)) counter flags key ≡ sent m1 m2 m3
   pub rules : Rules d (uidOf m1) (targetOf m1) (authorityOf m1) counter
-
--- a record as its slot keeps it
-abbrev pub asKept : ℕ → ℕ → ℕ → List ℕ → Slot
-asKept slot counter flags key = record { key = key; counter = counterKept slot counter; flags = kept slot flags; empty = off }
 
 -- one slot is new, and nothing else; slot 14's plain mark goes off with it
 pub record OnlyTarget (d : Device) (target : ℕ) (new : Slot) (e : Device) : Type 0 where

@@ -1,6 +1,6 @@
 -- The two outcomes of a command, from the answer that it found: refused, and done; and the checks that all commands begin with.
 -- Assumes nothing.
-use mathlib.Core.Path.{_≡_, refl, sym, ap, _∙_}
+use mathlib.Core.Path.{_≡_, refl, sym, ap, ap₂, _∙_}
 use mathlib.Core.Bool.{Bool, true, false, not, cond}
 use mathlib.Core.List.{List}
 use Prim.Native.Nat.{ℕ}
@@ -8,7 +8,9 @@ use native.Mathlib.Omega.{arith}
 use borrow.Author.Tests.{eq-eqb, ne-eqb, eqb-true, not-false}
 use lib.Dec.{eqb}
 use Rattle.modes.specs.Answer.{generalError}
+use Rattle.message.specs.Answer.{firstFault}
 use Rattle.message.proofs.Faults.{no-fault}
+use Rattle.device.specs.Checks.{checks}
 use Rattle.device.specs.Made.{made}
 use Rattle.device.specs.Outcome.{Outcome, refused, decided}
 use Rattle.device.specs.declared.Device.{Device}
@@ -43,6 +45,24 @@ same-answer answer d before success done = tests (eqb answer 0) refl
     tests false e = refl
 
 -- ---- the first two checks of every command: made, and lengths
+first-two : (d : Device) (lengths : Bool) (own : List (Bool × ℕ)) (m l : Bool) → made d ≡ m → lengths ≡ l
+    → firstFault (checks d lengths own) ≡ cond (not m) generalError (cond (not l) generalError (firstFault own))
+first-two d lengths own m l e h = ap₂ (λ (x y : Bool). cond (not x) generalError (cond (not y) generalError (firstFault own))) e h
+
+module _ (d : Device) (lengths : Bool) (own : List (Bool × ℕ)) where
+  pub not-made : made d ≡ false → firstFault (checks d lengths own) ≡ generalError
+  not-made unmade = first-two d lengths own false lengths unmade refl
+
+  pub not-long : lengths ≡ false → firstFault (checks d lengths own) ≡ generalError
+  not-long wrong = first-two d lengths own (made d) false refl wrong ∙ either-way-12 (made d)
+    where
+      either-way-12 : (m : Bool) → cond (not m) generalError generalError ≡ generalError
+      either-way-12 true = refl
+      either-way-12 false = refl
+
+  pub then-own : made d ≡ true → lengths ≡ true → firstFault (checks d lengths own) ≡ firstFault own
+  then-own is-made long = first-two d lengths own true true is-made long
+
 pub made-and-long : (d : Device) (lengths : Bool) (rest : ℕ) → cond (not (made d)) generalError (cond (not lengths) generalError rest) ≡ 0
     → (made d ≡ true) × (lengths ≡ true) × (rest ≡ 0)
 made-and-long d lengths rest e =

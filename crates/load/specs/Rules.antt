@@ -12,6 +12,7 @@ use Rattle.device.specs.Made.{zeroUid}
 use Rattle.device.specs.Record.{ramKey, off, isEmpty, keyAt, counterAt, flagsAt, putSlot, setPlain}
 use Rattle.device.specs.Rules.{hasFlag, kept}
 use Rattle.device.specs.declared.Device.{Device}
+use Rattle.device.specs.declared.Slot.{Slot}
 
 -- an empty slot that authorises itself counts as 16 bytes of FF
 unfoldable pub authorityKey : Device → ℕ → List ℕ
@@ -30,8 +31,10 @@ counterRises d target counter = eqb target ramKey || ltb (counterAt d target) co
 unfoldable pub plainAfter : ℕ → ℕ → ℕ
 plainAfter target plain = cond (eqb target ramKey) off plain
 
--- the target holds the key, with counter and flags as it keeps them
+-- counter, flags and key as a slot keeps them
+abbrev pub asKept : ℕ → ℕ → ℕ → List ℕ → Slot
+asKept slot counter flags key = record { key = key; counter = counterKept slot counter; flags = kept slot flags; empty = off }
+
+-- the target holds them so
 unfoldable pub loaded : Device → ℕ → ℕ → ℕ → List ℕ → Device
-loaded d target counter flags key =
-    putSlot target (record { key = key; counter = counterKept target counter; flags = kept target flags; empty = off })
-    (setPlain (plainAfter target (d .plain)) d)
+loaded d target counter flags key = putSlot target (asKept target counter flags key) (setPlain (plainAfter target (d .plain)) d)
