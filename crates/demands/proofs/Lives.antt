@@ -30,12 +30,12 @@ use Rattle.device.proofs.Record.{key-block}
 use Rattle.device.specs.declared.Device.{Device}
 use Rattle.device.specs.declared.Slot.{Slot}
 use Rattle.load.specs.Export.{exported}
-use Rattle.load.specs.Load.{fiveLengths}
+use Rattle.load.specs.Load.{fiveLengths, taken}
 use Rattle.load.specs.Rules.{authorityKey, isForUs, plainAfter, counterRises, asKept}
 use Rattle.load.proofs.Exporting.{ram-by-secret}
 use Rattle.load.proofs.Sound.{authority-block}
 use Rattle.demands.specs.Calls.{Call, load-key, export-ram-key, Machine, step, finished}
-use Rattle.demands.specs.Demand3.{Rules, Loads, taken, Demand3}
+use Rattle.demands.specs.Demand3.{Rules, Loads, Demand3}
 use Rattle.demands.specs.Liveness.{Liveness}
 use Rattle.demands.specs.Runs.{run, after, InBytes}
 use Rattle.demands.proofs.Runs.{runs, demand-3}

@@ -22,11 +22,11 @@ use Rattle.device.specs.Outcome.{Outcome}
 use Rattle.device.specs.Record.{isEmpty, withSlot, setPlain, Shaped}
 use Rattle.device.specs.declared.Device.{Device}
 use Rattle.device.proofs.Slots.{put-fits, that-slot, other-slot}
-use Rattle.load.specs.Load.{fiveLengths, loadAnswer, openedBy}
+use Rattle.load.specs.Load.{fiveLengths, loadAnswer, openedBy, taken}
 use Rattle.load.specs.Rules.{authorityKey, plainAfter, loaded, asKept}
 use Rattle.load.proofs.Sound.{authority-block, succeeded}
 use Rattle.demands.specs.Calls.{load-key, step}
-use Rattle.demands.specs.Demand3.{Loads, OnlyTarget, taken, LoadsExactly}
+use Rattle.demands.specs.Demand3.{Loads, OnlyTarget, LoadsExactly}
 use Rattle.demands.proofs.Steps.{found, answer-found, step-done}
 
 -- ---- a load puts one slot and nothing else

@@ -30,12 +30,12 @@ use Rattle.device.proofs.Made.{facts, fresh-sound}
 use Rattle.commands.specs.Checks.{otherAnswer}
 use Rattle.commands.specs.Commands.{makeAnswer, make, loadPlainKey}
 use Rattle.commands.proofs.Sound.{load-plain-key-sound}
-use Rattle.load.specs.Load.{loadAnswer, openedBy, loadKey}
+use Rattle.load.specs.Load.{loadAnswer, openedBy, loadKey, taken}
 use Rattle.load.specs.Rules.{authorityKey, isForUs, counterRises, plainAfter, loaded}
 use Rattle.load.proofs.Sound.{loaded-sound}
 use Rattle.demands.specs.Calls.{load-key, Machine, step}
 use Rattle.demands.specs.Demand2.{Usable}
-use Rattle.demands.specs.Demand3.{Rules, taken, Demand3}
+use Rattle.demands.specs.Demand3.{Rules, Demand3}
 use Rattle.demands.specs.Witness.{uid, secret, seed, master, door, key1, board, keyed, fitted, plain, toMaster, toKey1, load}
 use Rattle.demands.proofs.Lives.{built-loads}
 use Rattle.demands.proofs.Steps.{answer-found}

@@ -28,8 +28,7 @@ use Rattle.commands.specs.Checks.{slotChecks}
 use Rattle.commands.specs.Commands as commands
 use Rattle.commands.specs.Commands.{afterReset, macAgrees, nextSeed, extended, nextState, identity, idMac}
 use Rattle.load.specs.Export.{exportChecks, exported, exported4, exportRamKey}
-use Rattle.load.specs.Load.{fiveLengths, loadChecks, openedBy, proof4, loadKey}
-use Rattle.load.specs.Rules.{loaded}
+use Rattle.load.specs.Load.{fiveLengths, loadChecks, openedBy, taken, loadKey}
 
 -- with the numbers and buffers that it is given, those that it writes to last (M4 and M5 of a load, M1 to M5 of an export)
 pub data Call : Type 0 where
@@ -153,7 +152,8 @@ success n d (verify-mac slot bits message mac macbits) =
     (d, boolByte (macAgrees macbits (cmac (cipher (keyAt d slot)) bits message) mac), [])
 success n d (load-key m1 m2 m3 b4 b5) =
     let new = openedBy n d m1 m2 m3 in
-    (loaded d (targetOf m1) (new .counter) (new .flags) (new .key), 0, proof4 d m1 new ∷ m5 (new .key) (proof4 d m1 new) ∷ [])
+    let out = taken d (targetOf m1) (authorityOf m1) (new .counter) (new .flags) (new .key) in
+    (out .device, out .value, out .buffers)
 success n d (load-plain-key key) =
     (putSlot ramKey (record { key = key; counter = 0; flags = 0; empty = off }) (setPlain on d), 0, [])
 success n d (export-ram-key b1 b2 b3 b4 b5) =

@@ -5,7 +5,7 @@
 -- Assumes nothing.
 use mathlib.Core.Path.{_≡_}
 use mathlib.Core.Bool.{true, false}
-use mathlib.Core.List.{List, [], _∷_}
+use mathlib.Core.List.{List}
 use mathlib.Core.Logic.{_↔_}
 use Prim.Native.Nat.{ℕ, _+_, _≤_}
 use lib.ListN.{length}
@@ -14,16 +14,15 @@ use Rattle.aes.specs.State.{Bytes}
 use Rattle.modes.specs.Answer.{noError}
 use Rattle.message.specs.Building.{uidOf, targetOf, authorityOf, Carried}
 use Rattle.message.specs.Flags.{write}
-use Rattle.message.specs.Messages.{sent, build, m4, m5}
-use Rattle.message.specs.Slots.{allowed, counterKept}
+use Rattle.message.specs.Messages.{sent, build}
+use Rattle.message.specs.Slots.{allowed}
 use Rattle.device.specs.Made.{made, Sound}
-use Rattle.device.specs.Outcome.{Outcome, done}
 use Rattle.device.specs.Record.{secretKey, isEmpty, counterAt, flagsAt, slotAt}
 use Rattle.device.specs.Rules.{hasFlag, locked}
 use Rattle.device.specs.declared.Device.{Device}
 use Rattle.device.specs.declared.Slot.{Slot}
-use Rattle.load.specs.Load.{fiveLengths}
-use Rattle.load.specs.Rules.{authorityKey, isForUs, counterRises, plainAfter, asKept, loaded}
+use Rattle.load.specs.Load.{fiveLengths, taken}
+use Rattle.load.specs.Rules.{authorityKey, isForUs, counterRises, plainAfter, asKept}
 use Rattle.demands.specs.Calls.{Call, Machine, load-key}
 use Rattle.demands.specs.Runs.{run, after, loadsOf, InBytes}
 
@@ -56,12 +55,6 @@ pub record OnlyTarget (d : Device) (target : ℕ) (new : Slot) (e : Device) : Ty
   pub random-mark-stays : e .rng ≡ d .rng
   pub debugger-stays : e .debugger ≡ d .debugger
   pub made-stays : e .made ≡ d .made
-
--- what a device leaves that takes a key from an authority: M4 names its own UID and the counter that it stored
-abbrev pub taken : Device → ℕ → ℕ → ℕ → ℕ → List ℕ → Outcome
-taken d target authority counter flags key =
-    let fourth = m4 (d .uid) target authority (counterKept target counter) key in
-    done (loaded d target counter flags key) 0 (fourth ∷ m5 key fourth ∷ [])
 
 pub record LoadsExactly (n : ℕ) (machine : Machine) (d : Device) (m1 m2 m3 b4 b5 : List ℕ) : Type 0 where
   pub exactly-when : (machine d (load-key m1 m2 m3 b4 b5) .answer ≡ noError)

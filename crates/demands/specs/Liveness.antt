@@ -11,9 +11,10 @@ use Rattle.device.specs.Made.{Sound}
 use Rattle.device.specs.Outcome.{done}
 use Rattle.device.specs.Record.{ramKey, off, keyAt, slotAt}
 use Rattle.device.specs.declared.Device.{Device}
+use Rattle.load.specs.Load.{taken}
 use Rattle.load.specs.Rules.{authorityKey, asKept}
 use Rattle.demands.specs.Calls.{Call, Machine, load-key, export-ram-key}
-use Rattle.demands.specs.Demand3.{Rules, taken}
+use Rattle.demands.specs.Demand3.{Rules}
 use Rattle.demands.specs.Runs.{run, after, InBytes}
 
 pub record Liveness (machine : Machine) : Type 0 where

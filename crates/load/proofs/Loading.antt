@@ -104,7 +104,8 @@ module _ (n : ℕ) (d : Device) (one two three b4 b5 : List ℕ) (guard : ℕ)
     message-refused h = is-refused message _ d _ _ whole h
 
     pub load-done : (after : Device) (a4 a5 : List ℕ) → message ≡ 0 → after ≡ loaded d (targetOf one) (new .counter) (new .flags) (new .key)
-        → a4 ≡ proof4 d one new → a5 ≡ m5 (new .key) (proof4 d one new)
+        → a4 ≡ proof4 d (targetOf one) (authorityOf one) (new .counter) (new .key)
+        → a5 ≡ m5 (new .key) (proof4 d (targetOf one) (authorityOf one) (new .counter) (new .key))
         → outcome 0 after 0 (a4 ∷ a5 ∷ []) ≡ loadKey n d one two three b4 b5
     unfolding loadKey
     load-done after a4 a5 h stored fourth fifth =

@@ -61,12 +61,18 @@ abbrev pub openedBy : ℕ → Device → List ℕ → List ℕ → List ℕ → 
 openedBy n d m1 m2 m3 = opened n (authorityKey d (authorityOf m1)) m1 m2 m3
 
 -- the proof: the device's own UID, the same slots, the counter as it is stored
-abbrev pub proof4 : Device → List ℕ → Opened → List ℕ
-proof4 d m1 new = m4 (d .uid) (targetOf m1) (authorityOf m1) (counterKept (targetOf m1) (new .counter)) (new .key)
+abbrev pub proof4 : Device → ℕ → ℕ → ℕ → List ℕ → List ℕ
+proof4 d target authority counter key = m4 (d .uid) target authority (counterKept target counter) key
+
+-- what a device leaves that takes counter, flags and key by an authority: the target's record, M4 and M5
+abbrev pub taken : Device → ℕ → ℕ → ℕ → ℕ → List ℕ → Outcome
+taken d target authority counter flags key =
+    let fourth = proof4 d target authority counter key in
+    done (loaded d target counter flags key) 0 (fourth ∷ m5 key fourth ∷ [])
 
 unfoldable pub loadKey : ℕ → Device → List ℕ → List ℕ → List ℕ → List ℕ → List ℕ → Outcome
 loadKey n d m1 m2 m3 before4 before5 =
     let lengths = right (fiveLengths (length m1) (length m2) (length m3) (length before4) (length before5)) in
     let new = openedBy n d m1 m2 m3 in
     decided (loadAnswer d lengths m1 new) d (before4 ∷ before5 ∷ [])
-    (done (loaded d (targetOf m1) (new .counter) (new .flags) (new .key)) 0 (proof4 d m1 new ∷ m5 (new .key) (proof4 d m1 new) ∷ []))
+    (taken d (targetOf m1) (authorityOf m1) (new .counter) (new .flags) (new .key))
