@@ -59,9 +59,9 @@ module _ (n : ℕ) (d : Device) where
   own-refuse (dec-cbc slot iv input output) s named high = no-role d slot Cipher s named high
   own-refuse (generate-mac slot bits message mac) s named high = no-role d slot GenerateMac s named high
   own-refuse (verify-mac slot bits message mac macbits) s named high = no-role d slot VerifyMac s named high
-  own-refuse (load-key m1 m2 m3 m4 m5) s named high = rw (no-pair (targetOf m1) (authorityOf m1) s named high) refl
+  own-refuse (load-key m1 m2 m3 b4 b5) s named high = rw (no-pair (targetOf m1) (authorityOf m1) s named high) refl
   own-refuse (load-plain-key key) s named high = absurd named
-  own-refuse (export-ram-key m1 m2 m3 m4 m5) s named high = absurd named
+  own-refuse (export-ram-key b1 b2 b3 b4 b5) s named high = absurd named
   own-refuse init-rng s named high = absurd named
   own-refuse (extend-seed entropy) s named high = absurd named
   own-refuse (rnd output) s named high = absurd named

@@ -55,9 +55,9 @@ module _ (n : ℕ) (few : n ≤ 100) (d : Device) (sound : Sound d) where
   step-sound (dec-cbc slot iv input output) bytes = dec-cbc-sound d sound slot iv input output
   step-sound (generate-mac slot bits message mac) bytes = generate-mac-sound d sound slot bits message mac
   step-sound (verify-mac slot bits message mac macbits) bytes = verify-mac-sound d sound slot bits message mac macbits
-  step-sound (load-key m1 m2 m3 m4 m5) bytes = load-key-sound n few d sound m1 m2 m3 m4 m5 (bytes 1)
+  step-sound (load-key m1 m2 m3 b4 b5) bytes = load-key-sound n few d sound m1 m2 m3 b4 b5 (bytes 1)
   step-sound (load-plain-key key) bytes = load-plain-key-sound d sound key (bytes 0)
-  step-sound (export-ram-key m1 m2 m3 m4 m5) bytes = export-ram-key-sound n few d sound m1 m2 m3 m4 m5
+  step-sound (export-ram-key b1 b2 b3 b4 b5) bytes = export-ram-key-sound n few d sound b1 b2 b3 b4 b5
   step-sound init-rng bytes = init-rng-sound d sound
   step-sound (extend-seed entropy) bytes = extend-seed-sound d sound entropy
   step-sound (rnd output) bytes = rnd-sound d sound output

@@ -30,7 +30,7 @@ use Rattle.commands.specs.Commands.{afterReset, macAgrees, nextSeed, extended, 
 use Rattle.load.specs.Export.{exportChecks, exported, exported4, exportRamKey}
 use Rattle.load.specs.Load.{fiveLengths, loadChecks, openedBy, taken, loadKey}
 
--- with the numbers and buffers that it is given, those that it writes to last (M4 and M5 of a load, M1 to M5 of an export)
+-- with the numbers and buffers that it is given; b1 to b5 are room for M1 to M5
 pub data Call : Type 0 where
   reset : Call
   attach-debugger : Call
@@ -40,9 +40,9 @@ pub data Call : Type 0 where
   dec-cbc : (slot : ℕ) (iv input output : List ℕ) → Call
   generate-mac : (slot bits : ℕ) (message mac : List ℕ) → Call
   verify-mac : (slot bits : ℕ) (message mac : List ℕ) (macbits : ℕ) → Call
-  load-key : (m1 m2 m3 m4 m5 : List ℕ) → Call
+  load-key : (m1 m2 m3 b4 b5 : List ℕ) → Call
   load-plain-key : (key : List ℕ) → Call
-  export-ram-key : (m1 m2 m3 m4 m5 : List ℕ) → Call
+  export-ram-key : (b1 b2 b3 b4 b5 : List ℕ) → Call
   init-rng : Call
   extend-seed : (entropy : List ℕ) → Call
   rnd : (output : List ℕ) → Call
@@ -64,9 +64,9 @@ step n d (enc-cbc slot iv input output) = commands.encCbc d slot iv input output
 step n d (dec-cbc slot iv input output) = commands.decCbc d slot iv input output
 step n d (generate-mac slot bits message mac) = commands.generateMac d slot bits message mac
 step n d (verify-mac slot bits message mac macbits) = commands.verifyMac d slot bits message mac macbits
-step n d (load-key m1 m2 m3 m4 m5) = loadKey n d m1 m2 m3 m4 m5
+step n d (load-key m1 m2 m3 b4 b5) = loadKey n d m1 m2 m3 b4 b5
 step n d (load-plain-key key) = commands.loadPlainKey d key
-step n d (export-ram-key m1 m2 m3 m4 m5) = exportRamKey n d m1 m2 m3 m4 m5
+step n d (export-ram-key b1 b2 b3 b4 b5) = exportRamKey n d b1 b2 b3 b4 b5
 step n d init-rng = commands.initRng d
 step n d (extend-seed entropy) = commands.extendSeed d entropy
 step n d (rnd output) = commands.rnd d output
@@ -103,12 +103,12 @@ request (generate-mac slot bits message mac) =
     asks (mac ∷ []) (message ∷ []) (cmacLengths 16 bits (length message) (length mac)) (slot ∷ []) none
 request (verify-mac slot bits message mac macbits) =
     asks [] (message ∷ mac ∷ []) (cmacLengths 16 bits (length message) (length mac) && leb macbits 127) (slot ∷ []) none
-request (load-key m1 m2 m3 m4 m5) =
-    asks (m4 ∷ m5 ∷ []) (m1 ∷ m2 ∷ m3 ∷ []) (right (fiveLengths (length m1) (length m2) (length m3) (length m4) (length m5)))
+request (load-key m1 m2 m3 b4 b5) =
+    asks (b4 ∷ b5 ∷ []) (m1 ∷ m2 ∷ m3 ∷ []) (right (fiveLengths (length m1) (length m2) (length m3) (length b4) (length b5)))
     (targetOf m1 ∷ authorityOf m1 ∷ []) (eqb (targetOf m1))
 request (load-plain-key key) = asks [] (key ∷ []) (eqb (length key) 16) [] none
-request (export-ram-key m1 m2 m3 m4 m5) =
-    asks (m1 ∷ m2 ∷ m3 ∷ m4 ∷ m5 ∷ []) [] (right (fiveLengths (length m1) (length m2) (length m3) (length m4) (length m5))) [] none
+request (export-ram-key b1 b2 b3 b4 b5) =
+    asks (b1 ∷ b2 ∷ b3 ∷ b4 ∷ b5 ∷ []) [] (right (fiveLengths (length b1) (length b2) (length b3) (length b4) (length b5))) [] none
 request init-rng = asks [] [] true [] none
 request (extend-seed entropy) = asks [] (entropy ∷ []) (eqb (length entropy) 16) [] none
 request (rnd output) = asks (output ∷ []) [] (eqb (length output) 16) [] none
@@ -126,9 +126,9 @@ ownChecks n d (enc-cbc slot iv input output) = slotChecks d slot Cipher
 ownChecks n d (dec-cbc slot iv input output) = slotChecks d slot Cipher
 ownChecks n d (generate-mac slot bits message mac) = slotChecks d slot GenerateMac
 ownChecks n d (verify-mac slot bits message mac macbits) = slotChecks d slot VerifyMac
-ownChecks n d (load-key m1 m2 m3 m4 m5) = loadChecks d m1 (openedBy n d m1 m2 m3)
+ownChecks n d (load-key m1 m2 m3 b4 b5) = loadChecks d m1 (openedBy n d m1 m2 m3)
 ownChecks n d (load-plain-key key) = []
-ownChecks n d (export-ram-key m1 m2 m3 m4 m5) = exportChecks d
+ownChecks n d (export-ram-key b1 b2 b3 b4 b5) = exportChecks d
 ownChecks n d init-rng = (isOn (d .rng), sequenceError) ∷ []
 ownChecks n d (extend-seed entropy) = (not (isOn (d .rng)), rngSeed) ∷ []
 ownChecks n d (rnd output) = (not (isOn (d .rng)), rngSeed) ∷ []
