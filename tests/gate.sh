@@ -1,7 +1,7 @@
 #!/bin/sh
 # The gate: everything is proved from nothing, the must-fail edits are refused, the programs write what they should, the files
-# are in the layout, and the tests beside the proofs pass; no public routine lacks a promise in docs/. The last line is 'N passed, M failed', and the status is 0 only
-# where M is 0.
+# are in the layout, the tests beside the proofs pass, and no public routine lacks its promise in docs/. The last line is
+# 'N passed, M failed', and the status is 0 only where M is 0.
 set -u
 cd "$(dirname "$0")/.." || exit 2
 passed=0 failed=0
