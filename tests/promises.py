@@ -1,9 +1,9 @@
 #!/usr/bin/env python3
 """promises.py: holds docs/PROMISES.md and docs/DEMANDS.md to the crates.
 
-Of every function that another crate or C can call: it has a row in the table of promises, its contract has no `requires`, and
-the definition that its contract equates the outcome with is the one that the row names, in the file that the row names. Every
-wrong program that the table names is an edit that is there, and every edit that is there is named. Every theorem that a table
+Of every function that another crate or C can call: it has a row in the table of promises, its contract has no `requires`, the
+definition that its contract equates the outcome with is the one that the row names, in the file that the row names, and at least
+two wrong programs are named. Every one that the table names is an edit that is there, and every edit that is there is named. Every theorem that a table
 names is in its file. The definitions that `step` of crate `demands` gives its calls are those that the commands promise, so
 that a theorem about `step` is one about the code, and about all of it.
 
@@ -77,13 +77,15 @@ def places(cell, what):
 
 def hold_promises(routines):
     page = ROOT / "docs" / "PROMISES.md"
-    told, named = {}, set()
+    told, wrong = {}, {}
     for routine, _, definition, _, tried in rows_under(page, "routine"):
-        named.update(quoted(tried))
-        if not routine:
-            continue
-        crate, _, name = quoted(routine)[0].partition("(")[0].rpartition("::")
-        told[crate or "bench", name] = definition
+        if routine:
+            crate, _, name = quoted(routine)[0].partition("(")[0].rpartition("::")
+            told[crate or "bench", name] = definition
+        wrong.setdefault((crate or "bench", name), set()).update(quoted(tried))
+    for (crate, name), programs in wrong.items():
+        check(len(programs) > 1, f"{crate}::{name}: fewer than two wrong programs that its promise excludes")
+    named = set().union(*wrong.values())
     for (crate, name), head in routines.items():
         check((crate, name) in told, f"{crate}::{name} has no row in PROMISES.md")
         check("requires" not in head, f"{crate}::{name} has a precondition")
