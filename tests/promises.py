@@ -3,9 +3,9 @@
 
 Of every function that another crate or C can call: it has a row in the table of promises, its contract has no `requires`, the
 definition that its contract equates the outcome with is the one that the row names, in the file that the row names, and at least
-two wrong programs are named. Every one that the table names is an edit that is there, and every edit that is there is named. Every theorem that a table
-names is in its file. The definitions that `step` of crate `demands` gives its calls are those that the commands promise, so
-that a theorem about `step` is one about the code, and about all of it.
+two wrong programs are named. Every one that the table names is an edit that is there, and every edit that is there is named.
+Every theorem that a table names is in its file. The definitions that `step` of crate `demands` gives its calls are those that
+the commands promise, so that a theorem about `step` is one about the code, and about all of it.
 
 Writes each fault that it finds, and how much it looked at. The status is 0 only where there is no fault.
 """
