@@ -46,7 +46,7 @@ pub record Demand1 (n : ℕ) (machine : Machine) : Type 0 where
   pub refusal-changes-nothing : (d : Device) (call : Call) → (machine d call .answer ≡ noError → ⊥)
       → machine d call ≡ refused (machine d call .answer) d (request call .lent)
 
--- ---- making, which is asked for no record and hands out a new one: with right lengths and a UID that isn't zero, and then only,
+-- ---- making, which is given no record and hands out a new one: with right lengths and a UID that isn't zero, and then only,
 -- it hands out a made device; otherwise it answers 12 with the blank one, on which every call answers 12
 pub record Making (maker : List ℕ → List ℕ → List ℕ → Outcome) : Type 0 where
   pub exactly-when : (uid secret seed : List ℕ)
