@@ -23,9 +23,9 @@ use Rattle.modes.specs.Blocks.{zeroBlock}
 use Rattle.message.specs.Slots.{hasRole, counterKept}
 use Rattle.message.specs.declared.Role.the-variants.{Cipher}
 use Rattle.device.specs.Made.{blank}
-use Rattle.device.specs.Rules.{locked, usageFits}
+use Rattle.device.specs.Rules.{kept, locked, usageFits}
 use Rattle.device.specs.Outcome.{Outcome}
-use Rattle.device.specs.Record.{masterEcuKey, ramKey, blockAt, keyAt, emptyAt, putSlot}
+use Rattle.device.specs.Record.{masterEcuKey, ramKey, blockAt, keyAt, flagsAt, emptyAt, putSlot}
 use Rattle.device.specs.declared.Device.{Device}
 use Rattle.load.specs.Rules.{authorityKey, counterRises, loaded}
 use Rattle.message.specs.Flags.{flagCount}
@@ -77,16 +77,18 @@ module _ (machine : Machine) (demand : Demand1 flagCount machine) where
 module _ (machine : Machine) (demand : Demand2 flagCount machine) where
   pub not-one-block : OneBlockForAll machine → ⊥
   not-one-block sham =
-      let same = demand .texts-differ plain ramKey text zeroBlock zeroBlock zeroBlock
-      (plain-usable Cipher) text-block zero-block refl refl (sham plain ramKey text zeroBlock zeroBlock) in
-      omega (arith, ap (λ (x : List ℕ). byte x 1) same)
+      let one = demand .ecb-redone plain ramKey text zeroBlock zeroBlock (plain-usable Cipher) text-block refl refl in
+      let other = demand .ecb-redone plain ramKey zeroBlock zeroBlock zeroBlock (plain-usable Cipher) zero-block refl refl in
+      let alike = sham plain ramKey _ _ zeroBlock (ap (λ (o : Outcome). o .answer) one) (ap (λ (o : Outcome). o .answer) other) in
+      omega (arith, ap (λ (x : List ℕ). byte x 1) (sym (ap output one) ∙ alike ∙ ap output other))
 
   pub not-copying : Copies machine → ⊥
   not-copying sham =
       let x : List ℕ = output (machine plain (dec-ecb ramKey text zeroBlock)) in
       let done = demand .ecb-redone plain ramKey text zeroBlock zeroBlock (plain-usable Cipher) text-block refl refl in
-      let copied : x ≡ text = sym (sham plain ramKey x zeroBlock) ∙ ap output done in
-      let exact = demand .exact plain (enc-ecb ramKey x zeroBlock) (ap (λ (o : Outcome). o .answer) done) in
+      let zero = ap (λ (o : Outcome). o .answer) done in
+      let copied : x ≡ text = sym (sham plain ramKey x zeroBlock zero) ∙ ap output done in
+      let exact = demand .exact plain (enc-ecb ramKey x zeroBlock) zero in
       let same : text ≡ cipher master text = ap output (sym done ∙ exact) ∙ ap₂ cipher plain-key copied in
       omega (arith, ap (λ (l : List ℕ). byte l 0) (same ∙ published-block))
 
@@ -140,11 +142,12 @@ module _ (machine : Machine) (demand : Demand3 flagCount machine) where
   stale = refl
 
   pub not-taking-replays : TakesReplays machine → ⊥
-  unfolding m1 right loaded putSlot authorityKey blockAt tabulate
+  unfolding m1 right loaded putSlot kept authorityKey blockAt tabulate
   not-taking-replays sham =
       let once = key1-loads machine demand in
       let again = subst (λ (d : Device). machine d (load toKey1) .answer ≡ noError) (ap (λ (o : Outcome). o .device) once)
-      (sham keyed _ _ _ _ _ (ap (λ (o : Outcome). o .answer) once)) in
+      (sham keyed _ _ _ _ _ (ap (λ (o : Outcome). o .answer) once) (λ same. omega (arith, same))
+      (ap (λ (o : Outcome). flagsAt (o .device) key1) once)) in
       let some = demand .loading fitted (toKey1 .m1) (toKey1 .m2) (toKey1 .m3) (replicate 32 0) (replicate 16 0) fitted-sound
       (key1-m2 .small) (rw (key1-m2 .long, key1-m3 .long) refl) .exactly-when .0 again in
       let same = parts-unique flagCount (omega arith) master (toKey1 .m1) (toKey1 .m2) (toKey1 .m3) master-block refl key1-m2

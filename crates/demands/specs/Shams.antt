@@ -1,4 +1,5 @@
 -- Sham devices: machines that do one thing wrong, whatever else they do. The theorems are that none of them meets the demands.
+-- What is wrong is said of no more calls than the sham would do so in: one that makes all other checks is among them.
 -- Assumes nothing.
 use mathlib.Core.Path.{_≡_}
 use mathlib.Core.Bool.{true, false}
@@ -6,8 +7,9 @@ use mathlib.Core.List.{List, [], _∷_}
 use Prim.Native.Nat.{ℕ, _%_}
 use lib.ListN.{length, replicate}
 use Rattle.modes.specs.Answer.{noError}
+use Rattle.message.specs.Building.{targetOf, authorityOf}
 use Rattle.device.specs.Made.{made}
-use Rattle.device.specs.Record.{masterEcuKey, isEmpty}
+use Rattle.device.specs.Record.{masterEcuKey, isEmpty, flagsAt}
 use Rattle.device.specs.declared.Device.{Device}
 use Rattle.demands.specs.Calls.{enc-ecb, verify-mac, load-key, load-plain-key, Machine}
 use Rattle.demands.specs.Demand2.{output, yes-verdict}
@@ -17,9 +19,10 @@ use Rattle.demands.specs.Demand2.{output, yes-verdict}
 abbrev pub RefusesEveryLoad : Machine → Type 0
 RefusesEveryLoad machine = (d : Device) (m1 m2 m3 b4 b5 : List ℕ) → machine d (load-key m1 m2 m3 b4 b5) .answer ≡ noError → ⊥
 
--- it gives the same block for all texts
+-- it gives the same block for all texts that it enciphers
 abbrev pub OneBlockForAll : Machine → Type 0
-OneBlockForAll machine = (d : Device) (slot : ℕ) (x y out : List ℕ)
+OneBlockForAll machine = (d : Device) (slot : ℕ) (x y out : List ℕ) → machine d (enc-ecb slot x out) .answer ≡ noError
+    → machine d (enc-ecb slot y out) .answer ≡ noError
     → output (machine d (enc-ecb slot x out)) ≡ output (machine d (enc-ecb slot y out))
 
 -- it answers 0 and stores nothing
@@ -53,7 +56,8 @@ ClearsFirst machine = (d : Device) (slot : ℕ) (text out : List ℕ) → (machi
 -- ---- against the second demand
 -- it copies: deciphering undoes enciphering, and nothing is enciphered
 abbrev pub Copies : Machine → Type 0
-Copies machine = (d : Device) (slot : ℕ) (text out : List ℕ) → output (machine d (enc-ecb slot text out)) ≡ text
+Copies machine = (d : Device) (slot : ℕ) (text out : List ℕ) → machine d (enc-ecb slot text out) .answer ≡ noError
+    → output (machine d (enc-ecb slot text out)) ≡ text
 
 -- VERIFY_MAC says yes to every MAC
 abbrev pub SaysYes : Machine → Type 0
@@ -62,7 +66,10 @@ SaysYes machine = (d : Device) (slot bits : ℕ) (message mac : List ℕ) (macbi
     → machine d (verify-mac slot bits message mac macbits) .value ≡ yes-verdict
 
 -- ---- against the third demand
--- what it took once it takes again
+-- what it took once it takes again, where its authority is another slot and the target's flags are what they were, so that only
+-- the counter could forbid it
 abbrev pub TakesReplays : Machine → Type 0
 TakesReplays machine = (d : Device) (m1 m2 m3 b4 b5 : List ℕ) → machine d (load-key m1 m2 m3 b4 b5) .answer ≡ noError
+    → (authorityOf m1 ≡ targetOf m1 → ⊥)
+    → flagsAt (machine d (load-key m1 m2 m3 b4 b5) .device) (targetOf m1) ≡ flagsAt d (targetOf m1)
     → machine (machine d (load-key m1 m2 m3 b4 b5) .device) (load-key m1 m2 m3 b4 b5) .answer ≡ noError
