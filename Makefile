@@ -1,11 +1,11 @@
-.PHONY: demo test bench shams
+.PHONY: demo test bench soak cases faults shams
 
-# The proved programs: the device played through its commands, and the published vectors.
+# A day in the yard: a C program over include/she.h. The library is proved before it is linked.
 demo:
-	@mkdir -p target
-	@rt check cases vectors >target/demo.log 2>&1 || { cat target/demo.log; exit 1; }
-	@sh tests/run-program.sh cases <crates/cases/stdin
-	@sh tests/run-program.sh vectors <crates/vectors/stdin
+	@mkdir -p target/native
+	@sh tests/native-archive.sh board
+	@gcc -std=c99 -O2 -Wall -Wextra -Iinclude demo/yard.c target/native/libboard.a -o target/native/yard
+	@target/native/yard
 
 # The gate.
 test:
@@ -14,6 +14,21 @@ test:
 # Ours beside others', measured on this machine.
 bench:
 	@sh tests/bench.sh
+
+# The library beside the second program, on random sequences, until it is stopped or they differ. SEED=n for a seed of one's own.
+soak:
+	@sh tests/soak.sh $(SEED)
+
+# The proved programs: a tester's day of commands, and the published vectors.
+cases:
+	@mkdir -p target
+	@rt check cases vectors >target/cases.log 2>&1 || { cat target/cases.log; exit 1; }
+	@sh tests/run-program.sh cases <crates/cases/stdin
+	@sh tests/run-program.sh vectors <crates/vectors/stdin
+
+# Whether the comparison can fail: single faults in the place of the library, each of which it must see.
+faults:
+	@python3 tests/faults.py
 
 # The wrong programs of docs/PROMISES.md that the gate has no time for.
 shams:

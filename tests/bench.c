@@ -1,10 +1,18 @@
-/* Our AES-128, its modes, key messages and commands beside BearSSL's and libtomcrypt's, in one run.
+/* Our AES-128, its modes, key messages and commands beside BearSSL's and libtomcrypt's, in one run, as Markdown tables.
  *
- * All of them are checked to give the same bytes first. Each figure is the best of ROUNDS rounds, and each round measures
+ * All of them are checked to give the same bytes first. Each time is the best of ROUNDS rounds, and each round measures
  * everything once, so that a slow moment of the machine falls on all alike. Blocks are chained, each the input of the next.
+ * The bare engine is called through the crate `bench`, all else as firmware calls it, through she.h.
+ *
  * BearSSL has no call for one block: its CBC over 64 KiB stands in, which adds an exclusive or of 16 bytes a block. It has no
- * CMAC either, and its CBC-MAC stands in, which leaves out the subkeys, two blocks in 4,096. A key message is made of the
- * peers' blocks and key schedules here, in 10 and 6 of them, which is the least that M1 to M3 take. */
+ * CMAC either, and its CBC-MAC stands in, which leaves out the subkeys, two blocks in 4,096. Key messages are made and opened
+ * of the peers' blocks and key schedules here, as many of them as ours takes: 10 blocks and 6 schedules for M1 to M3; 18 blocks,
+ * two of them backwards, and 12 schedules for LOAD_KEY. What LOAD_KEY asks besides, the peers are spared. Where a peer has key
+ * schedules of one direction, it makes the one that it needs; ours has one for both.
+ *
+ * --quick measures in few rounds, leaves the stack out, which a sanitizer couldn't follow, and holds no time against its limit.
+ */
+#include "she.h"
 #include <bearssl.h>
 #include <stdint.h>
 #include <stdio.h>
@@ -12,28 +20,17 @@
 #include <string.h>
 #include <time.h>
 #include <tomcrypt.h>
+#include <ucontext.h>
 
-enum { BLOCKS = 4096, MESSAGES = 256, ROUNDS = 30 };
+enum { BLOCKS = 4096, MESSAGES = 256, ROUNDS = 100, QUICK_ROUNDS = 2 };
+
+/* What 001, 4.3 allows for a MAC of 128 KiB, in milliseconds, and what a command may take besides its cryptography. */
+enum { BOOT_MILLISECONDS = 10, COMMAND_NANOSECONDS = 1000 };
 
 void bench_schedule(const uint8_t key[16], uint8_t schedule[176]);
 void bench_encrypt(const uint8_t schedule[176], const uint8_t block[16], uint8_t out[16]);
 void bench_decrypt(const uint8_t schedule[176], const uint8_t block[16], uint8_t out[16]);
 void bench_encrypt_keyed(const uint8_t key[16], const uint8_t block[16], uint8_t out[16]);
-uint8_t bench_cbc_encrypt(const uint8_t *key, size_t key_len, const uint8_t *iv, size_t iv_len, const uint8_t *in, size_t in_len,
-                          uint8_t *out, size_t out_len);
-uint8_t bench_cbc_decrypt(const uint8_t *key, size_t key_len, const uint8_t *iv, size_t iv_len, const uint8_t *in, size_t in_len,
-                          uint8_t *out, size_t out_len);
-uint8_t bench_cmac(const uint8_t *key, size_t key_len, uint64_t bits, const uint8_t *message, size_t message_len, uint8_t *out,
-                   size_t out_len);
-uint8_t bench_write_key(const uint8_t *uid, size_t uid_len, uint8_t target, uint8_t authority, const uint8_t *secret, size_t secret_len,
-                        uint32_t counter, uint8_t flags, const uint8_t *new_key, size_t new_key_len, uint8_t *m1, size_t m1_len,
-                        uint8_t *m2, size_t m2_len, uint8_t *m3, size_t m3_len);
-
-uint8_t bench_status(const uint8_t *uid, size_t uid_len, const uint8_t *secret, size_t secret_len, const uint8_t *seed,
-                     size_t seed_len);
-uint8_t bench_plain_key(const uint8_t *uid, size_t uid_len, const uint8_t *secret, size_t secret_len, const uint8_t *seed,
-                        size_t seed_len, const uint8_t *plain_key, size_t plain_key_len, const uint8_t *in, size_t in_len,
-                        uint8_t *out, size_t out_len);
 
 static uint8_t key[16], iv[16], text[16 * BLOCKS], other_text[16 * BLOCKS], schedule[176], mac[16];
 static br_aes_small_cbcenc_keys small_enc;
@@ -45,6 +42,17 @@ static br_aes_big_ctrcbc_keys big_mac;
 static symmetric_key tom;
 static symmetric_CBC tom_cbc;
 static int tom_aes;
+
+/* Every answer of ours, and whatever a peer refuses: what is measured is what succeeds. */
+static uint8_t refused;
+
+static void must_succeed(const char *what)
+{
+    if (refused != 0) {
+        fprintf(stderr, "bench: %s is refused\n", what);
+        exit(1);
+    }
+}
 
 static void make_keys(void)
 {
@@ -60,6 +68,48 @@ static void make_keys(void)
     cbc_start(tom_aes, iv, key, 16, 0, &tom_cbc);
 }
 
+/* ---- devices: `device` is the one in use, and goes back to `fresh` before each measurement, by the copying that she.h allows */
+
+static struct she_device device, fresh, started;
+static uint8_t uid[15] = {1}, master[16], row[MESSAGES][64], text_mac[16];
+
+static uint8_t write_message(uint32_t target, uint32_t authority, const uint8_t secret[16], uint64_t counter, uint32_t flags,
+                             uint8_t m[64])
+{
+    return she_write_key(uid, 15, target, authority, secret, 16, counter, flags, key, 16, m, 16, m + 16, 32, m + 48, 16);
+}
+
+static uint8_t load_message(const uint8_t m[64], uint8_t proof[48])
+{
+    return she_load_key(&device, m, 16, m + 16, 32, m + 48, 16, proof, 32, proof + 32, 16);
+}
+
+/* A device with all that the commands need: MASTER_ECU_KEY, which an empty slot takes under sixteen times FF, and RAM_KEY, both
+ * of them `key`. `started` is the same with random numbers. */
+static void make_devices(void)
+{
+    uint8_t first[16], m[64], proof[48];
+    memset(first, 0xff, 16);
+    memcpy(master, key, 16);
+    refused |= she_make(&device, uid, 15, key, 16, iv, 16);
+    refused |= write_message(SHE_MASTER_ECU_KEY, SHE_MASTER_ECU_KEY, first, 1, 0, m);
+    refused |= load_message(m, proof);
+    refused |= she_load_plain_key(&device, key, 16);
+    fresh = device;
+    refused |= she_init_rng(&device);
+    started = device;
+    device = fresh;
+    must_succeed("making a device");
+}
+
+/* Messages for KEY_1 of `fresh`, loaded one after the other: the counter rises, and WRITE isn't set, which would end it. */
+static void write_row(void)
+{
+    for (uint32_t i = 0; i < MESSAGES; i++)
+        refused |= write_message(SHE_KEY_1, SHE_MASTER_ECU_KEY, master, i + 1, i % SHE_WRITE, row[i]);
+    must_succeed("a key message");
+}
+
 /* ---- what is measured: BLOCKS times each */
 
 static void chain(void (*step)(const uint8_t *, const uint8_t *, uint8_t *), const uint8_t *with)
@@ -73,9 +123,12 @@ static void chain(void (*step)(const uint8_t *, const uint8_t *, uint8_t *), con
     memcpy(text, even, 16);
 }
 
+static void she_step(const uint8_t *k, const uint8_t *in, uint8_t *out) { refused |= she_aes_encrypt(k, 16, in, 16, out, 16); }
+
 static void our_encrypt(void) { chain(bench_encrypt, schedule); }
 static void our_decrypt(void) { chain(bench_decrypt, schedule); }
 static void our_keyed(void) { chain(bench_encrypt_keyed, key); }
+static void our_aes_encrypt(void) { chain(she_step, key); }
 static void our_schedule(void)
 {
     for (int i = 0; i < BLOCKS; i++) {
@@ -84,14 +137,30 @@ static void our_schedule(void)
     }
 }
 
-static void our_cbc_encrypt(void) { bench_cbc_encrypt(key, 16, iv, 16, text, sizeof text, other_text, sizeof other_text); }
-static void our_cbc_decrypt(void) { bench_cbc_decrypt(key, 16, iv, 16, text, sizeof text, other_text, sizeof other_text); }
-static void our_cmac(void) { bench_cmac(key, 16, 8 * sizeof text, text, sizeof text, mac, 16); }
+static void our_cbc_encrypt(void)
+{
+    refused |= she_cbc_encrypt(key, 16, iv, 16, text, sizeof text, other_text, sizeof other_text);
+}
+static void our_cbc_decrypt(void)
+{
+    refused |= she_cbc_decrypt(key, 16, iv, 16, text, sizeof text, other_text, sizeof other_text);
+}
+static void our_cmac(void) { refused |= she_cmac(key, 16, 8 * sizeof text, text, sizeof text, mac, 16); }
+static void our_boot(void)
+{
+    our_cmac();
+    refused |= she_cmac(key, 16, 8 * sizeof other_text, other_text, sizeof other_text, mac, 16);
+}
 
 #define BEARSSL(kind)                                                                                     \
     static void kind##_encrypt(void) { br_aes_##kind##_cbcenc_run(&kind##_enc, iv, text, sizeof text); } \
     static void kind##_decrypt(void) { br_aes_##kind##_cbcdec_run(&kind##_dec, iv, text, sizeof text); } \
     static void kind##_cmac(void) { br_aes_##kind##_ctrcbc_mac(&kind##_mac, mac, text, sizeof text); }    \
+    static void kind##_boot(void)                                                                        \
+    {                                                                                                    \
+        kind##_cmac();                                                                                   \
+        br_aes_##kind##_ctrcbc_mac(&kind##_mac, mac, other_text, sizeof other_text);                     \
+    }                                                                                                    \
     static void kind##_schedule(void)                                                                    \
     {                                                                                                    \
         for (int i = 0; i < BLOCKS; i++) {                                                               \
@@ -121,41 +190,55 @@ static void tom_decrypt(void)
 }
 static void tom_cbc_encrypt(void) { cbc_encrypt(text, other_text, sizeof text, &tom_cbc); }
 static void tom_cbc_decrypt(void) { cbc_decrypt(text, other_text, sizeof text, &tom_cbc); }
-static void tom_cmac(void)
+static void tom_omac(const uint8_t *message)
 {
     unsigned long length = 16;
-    omac_memory(tom_aes, key, 16, text, sizeof text, mac, &length);
+    omac_memory(tom_aes, key, 16, message, sizeof text, mac, &length);
+}
+static void tom_cmac(void) { tom_omac(text); }
+static void tom_boot(void)
+{
+    tom_omac(text);
+    tom_omac(other_text);
 }
 static void tom_schedule(void)
 {
     for (int i = 0; i < BLOCKS; i++) {
-        aes_setup(key, 16, 0, &tom);
+        aes_enc_setup(key, 16, 0, &tom);
         memcpy(key, tom.rijndael.eK + 40, 16);
     }
 }
 static void tom_keyed(void)
 {
     for (int i = 0; i < BLOCKS; i++) {
-        aes_setup(key, 16, 0, &tom);
-        aes_ecb_encrypt(text, text, &tom);
+        aes_enc_setup(key, 16, 0, &tom);
+        aes_enc_ecb_encrypt(text, text, &tom);
     }
 }
 
-/* ---- a key message: M1 to M3 one after the other, for slot 4 by slot 1, and the new key is then the authority's */
+/* ---- key messages: M1 to M3 one after the other, for slot 4 by slot 1, and M3 is then the authority's key; and the loading of a
+ * row of them, which gives M4 and M5 */
 
-static uint8_t messages[64], secret[16];
+static uint8_t messages[64], secret[16], proofs[48];
 
 static void our_message(void)
 {
     for (int i = 0; i < MESSAGES; i++) {
-        bench_write_key(iv, 15, 4, 1, secret, 16, (uint32_t)i, i % 32, key, 16, messages, 16, messages + 16, 32, messages + 48, 16);
+        refused |= write_message(SHE_KEY_1, SHE_MASTER_ECU_KEY, secret, (uint64_t)i, i % 32, messages);
         memcpy(secret, messages + 48, 16);
     }
+}
+
+static void our_load(void)
+{
+    for (int i = 0; i < MESSAGES; i++)
+        refused |= load_message(row[i], proofs);
 }
 
 struct engine {
     void (*set)(const uint8_t key[16]);
     void (*block)(uint8_t block[16]);
+    void (*open)(const uint8_t key[16], uint8_t two[32]); /* CBC decrypt of two blocks with an IV of zeros */
 };
 
 static void add(uint8_t to[16], const uint8_t other[16])
@@ -179,13 +262,32 @@ static void peer_kdf(const struct engine *e, const uint8_t from[16], uint8_t num
     }
 }
 
+/* CMAC of whole blocks: one block for the subkey, and one for each of theirs. */
+static void peer_cmac(const struct engine *e, const uint8_t k[16], const uint8_t *message, int blocks, uint8_t out[16])
+{
+    uint8_t subkey[16] = {0};
+    e->set(k);
+    e->block(subkey);
+    uint8_t carry = subkey[0] >> 7;
+    for (int i = 0; i < 16; i++)
+        subkey[i] = (uint8_t)(subkey[i] << 1 | (i < 15 ? subkey[i + 1] >> 7 : 0));
+    subkey[15] ^= carry * 0x87;
+    memset(out, 0, 16);
+    for (int i = 0; i < blocks; i++) {
+        add(out, message + 16 * i);
+        if (i == blocks - 1)
+            add(out, subkey);
+        e->block(out);
+    }
+}
+
 static void peer_write(const struct engine *e, uint32_t counter, uint8_t flags, uint8_t m[64])
 {
     uint64_t head = (uint64_t)counter << 12 | (uint64_t)flags << 7;
-    uint8_t k1[16], k2[16], subkey[16] = {0};
+    uint8_t k1[16], k2[16];
     peer_kdf(e, secret, 1, k1);
     peer_kdf(e, secret, 2, k2);
-    memcpy(m, iv, 15);
+    memcpy(m, uid, 15);
     m[15] = 0x41;
     memset(m + 16, 0, 16);
     for (int i = 0; i < 5; i++)
@@ -195,19 +297,37 @@ static void peer_write(const struct engine *e, uint32_t counter, uint8_t flags, 
     e->block(m + 16);
     add(m + 32, m + 16);
     e->block(m + 32);
-    e->set(k2);
-    e->block(subkey);
-    uint8_t carry = subkey[0] >> 7;
-    for (int i = 0; i < 16; i++)
-        subkey[i] = (uint8_t)(subkey[i] << 1 | (i < 15 ? subkey[i + 1] >> 7 : 0));
-    subkey[15] ^= carry * 0x87;
-    memset(m + 48, 0, 16);
-    for (int i = 0; i < 3; i++) {
-        add(m + 48, m + 16 * i);
-        if (i == 2)
-            add(m + 48, subkey);
-        e->block(m + 48);
-    }
+    peer_cmac(e, k2, m, 3, m + 48);
+}
+
+/* M4 names the board and the slots as M1 does here, and then has the counter, a bit of 1 and zeros under K3; M5 is its MAC. */
+static void peer_prove(const struct engine *e, const uint8_t m1[16], const uint8_t clear[32], uint8_t proof[48])
+{
+    uint8_t k3[16], k4[16];
+    peer_kdf(e, clear + 16, 1, k3);
+    peer_kdf(e, clear + 16, 2, k4);
+    memcpy(proof, m1, 16);
+    memset(proof + 16, 0, 16);
+    memcpy(proof + 16, clear, 4);
+    proof[19] = (proof[19] & 0xf0) | 8;
+    e->set(k3);
+    e->block(proof + 16);
+    peer_cmac(e, k4, proof, 2, proof + 32);
+}
+
+/* Answers 1 to a message that is forged, and else 0. */
+static uint8_t peer_load(const struct engine *e, const uint8_t authority[16], const uint8_t m[64], uint8_t proof[48])
+{
+    uint8_t k1[16], k2[16], m3[16], clear[32];
+    peer_kdf(e, authority, 1, k1);
+    peer_kdf(e, authority, 2, k2);
+    peer_cmac(e, k2, m, 3, m3);
+    if (memcmp(m3, m + 48, 16) != 0)
+        return 1;
+    memcpy(clear, m + 16, 32);
+    e->open(k1, clear);
+    peer_prove(e, m, clear, proof);
+    return 0;
 }
 
 static void peer_messages(const struct engine *e)
@@ -218,41 +338,48 @@ static void peer_messages(const struct engine *e)
     }
 }
 
-#define ENGINE(kind)                                                                              \
+static void peer_loads(const struct engine *e)
+{
+    for (int i = 0; i < MESSAGES; i++)
+        refused |= peer_load(e, master, row[i], proofs);
+}
+
+#define ENGINE(kind)                                                                                 \
     static void kind##_set(const uint8_t k[16]) { br_aes_##kind##_cbcenc_init(&kind##_enc, k, 16); } \
-    static void kind##_block(uint8_t block[16])                                                   \
-    {                                                                                             \
-        uint8_t zero[16] = {0};                                                                   \
-        br_aes_##kind##_cbcenc_run(&kind##_enc, zero, block, 16);                                 \
-    }                                                                                             \
-    static const struct engine kind##_engine = {kind##_set, kind##_block};                        \
-    static void kind##_message(void) { peer_messages(&kind##_engine); }
+    static void kind##_block(uint8_t block[16])                                                      \
+    {                                                                                                \
+        uint8_t zero[16] = {0};                                                                      \
+        br_aes_##kind##_cbcenc_run(&kind##_enc, zero, block, 16);                                    \
+    }                                                                                                \
+    static void kind##_open(const uint8_t k[16], uint8_t two[32])                                    \
+    {                                                                                                \
+        uint8_t zero[16] = {0};                                                                      \
+        br_aes_##kind##_cbcdec_init(&kind##_dec, k, 16);                                             \
+        br_aes_##kind##_cbcdec_run(&kind##_dec, zero, two, 32);                                      \
+    }                                                                                                \
+    static const struct engine kind##_engine = {kind##_set, kind##_block, kind##_open};              \
+    static void kind##_message(void) { peer_messages(&kind##_engine); }                              \
+    static void kind##_load(void) { peer_loads(&kind##_engine); }
 ENGINE(small)
 ENGINE(big)
 
-static void tom_set(const uint8_t k[16]) { aes_setup(k, 16, 0, &tom); }
-static void tom_block(uint8_t block[16]) { aes_ecb_encrypt(block, block, &tom); }
-static const struct engine tom_engine = {tom_set, tom_block};
+static void tom_set(const uint8_t k[16]) { aes_enc_setup(k, 16, 0, &tom); }
+static void tom_block(uint8_t block[16]) { aes_enc_ecb_encrypt(block, block, &tom); }
+static void tom_open(const uint8_t k[16], uint8_t two[32])
+{
+    uint8_t first[16];
+    memcpy(first, two, 16);
+    aes_setup(k, 16, 0, &tom);
+    aes_ecb_decrypt(two, two, &tom);
+    aes_ecb_decrypt(two + 16, two + 16, &tom);
+    add(two + 16, first);
+}
+static const struct engine tom_engine = {tom_set, tom_block, tom_open};
 static void tom_message(void) { peer_messages(&tom_engine); }
-
-/* ---- commands of a device that lives for one call: made and asked for its status, and made, given a plain key and used */
-
-static uint8_t uid[15] = {1};
-
-static void our_status(void)
-{
-    for (int i = 0; i < BLOCKS; i++)
-        uid[1] = (uint8_t)(bench_status(uid, 15, secret, 16, key, 16) + i);
-}
-
-static void our_plain_key(void)
-{
-    for (int i = 0; i < BLOCKS; i++)
-        bench_plain_key(uid, 15, secret, 16, key, 16, key, 16, text, 16, text, 16);
-}
+static void tom_load(void) { peer_loads(&tom_engine); }
 
 enum { OURS, SMALL, BIG, TOM, WHO };
-enum { ENCRYPT, DECRYPT, SCHEDULE, KEYED, CBC_ENCRYPT, CBC_DECRYPT, CMAC, MESSAGE, WORK };
+enum { ENCRYPT, DECRYPT, SCHEDULE, KEYED, AES_ENCRYPT, CBC_ENCRYPT, CBC_DECRYPT, CMAC, MESSAGE, LOAD, BOOT, WORK };
 
 static const struct {
     const char *name;
@@ -263,10 +390,54 @@ static const struct {
     [DECRYPT] = {"decrypt a block", BLOCKS, {our_decrypt, small_decrypt, big_decrypt, tom_decrypt}},
     [SCHEDULE] = {"key schedule", BLOCKS, {our_schedule, small_schedule, big_schedule, tom_schedule}},
     [KEYED] = {"schedule and encrypt", BLOCKS, {our_keyed, small_keyed, big_keyed, tom_keyed}},
-    [CBC_ENCRYPT] = {"CBC encrypt, a block", BLOCKS, {our_cbc_encrypt, small_encrypt, big_encrypt, tom_cbc_encrypt}},
-    [CBC_DECRYPT] = {"CBC decrypt, a block", BLOCKS, {our_cbc_decrypt, small_decrypt, big_decrypt, tom_cbc_decrypt}},
-    [CMAC] = {"CMAC, a block", BLOCKS, {our_cmac, small_cmac, big_cmac, tom_cmac}},
-    [MESSAGE] = {"a key message", MESSAGES, {our_message, small_message, big_message, tom_message}},
+    [AES_ENCRYPT] = {"`she_aes_encrypt`", BLOCKS, {our_aes_encrypt, small_keyed, big_keyed, tom_keyed}},
+    [CBC_ENCRYPT] = {"`she_cbc_encrypt`, a block", BLOCKS, {our_cbc_encrypt, small_encrypt, big_encrypt, tom_cbc_encrypt}},
+    [CBC_DECRYPT] = {"`she_cbc_decrypt`, a block", BLOCKS, {our_cbc_decrypt, small_decrypt, big_decrypt, tom_cbc_decrypt}},
+    [CMAC] = {"`she_cmac`, a block", BLOCKS, {our_cmac, small_cmac, big_cmac, tom_cmac}},
+    [MESSAGE] = {"`she_write_key`", MESSAGES, {our_message, small_message, big_message, tom_message}},
+    [LOAD] = {"`she_load_key`", MESSAGES, {our_load, small_load, big_load, tom_load}},
+    [BOOT] = {"MAC of 128 KiB, as two of 64 KiB", 1, {our_boot, small_boot, big_boot, tom_boot}},
+};
+
+/* ---- commands, which no peer has */
+
+static void ecb_step(const uint8_t *unused, const uint8_t *in, uint8_t *out)
+{
+    (void)unused; /* the key lies in the device */
+    refused |= she_enc_ecb(&device, SHE_RAM_KEY, in, 16, out, 16);
+}
+
+static void our_status(void)
+{
+    uint8_t status;
+    for (int i = 0; i < BLOCKS; i++)
+        refused |= she_get_status(&device, &status);
+}
+
+static void our_reset(void)
+{
+    for (int i = 0; i < BLOCKS; i++)
+        refused |= she_reset(&device);
+}
+
+static void our_plain_key(void)
+{
+    for (int i = 0; i < BLOCKS; i++)
+        refused |= she_load_plain_key(&device, text + 16 * i, 16);
+}
+
+static void our_ecb(void) { chain(ecb_step, key); }
+
+enum { STATUS, RESET, PLAIN_KEY, ECB, COMMANDS };
+
+static const struct {
+    const char *name;
+    void (*run)(void);
+} commands[COMMANDS] = {
+    [STATUS] = {"`she_get_status`", our_status},
+    [RESET] = {"`she_reset`", our_reset},
+    [PLAIN_KEY] = {"`she_load_plain_key`", our_plain_key},
+    [ECB] = {"`she_enc_ecb`, less schedule and encrypt", our_ecb},
 };
 
 /* ---- the same bytes from all */
@@ -281,6 +452,50 @@ static void must_agree_all(const char *what, const uint8_t *a, const uint8_t *b,
 
 static void must_agree(const char *what, const uint8_t *a, const uint8_t *b) { must_agree_all(what, a, b, 16); }
 
+static void check_engine(const uint8_t block[16])
+{
+    uint8_t cipher[16], other[16], zero[16];
+    bench_encrypt(schedule, block, cipher);
+    memcpy(other, block, 16), memset(zero, 0, 16);
+    br_aes_small_cbcenc_run(&small_enc, zero, other, 16);
+    must_agree("encrypt, aes_small", cipher, other);
+    memcpy(other, block, 16), memset(zero, 0, 16);
+    br_aes_big_cbcenc_run(&big_enc, zero, other, 16);
+    must_agree("encrypt, aes_big", cipher, other);
+    aes_ecb_encrypt(block, other, &tom);
+    must_agree("encrypt, libtomcrypt", cipher, other);
+    bench_encrypt_keyed(key, block, other);
+    must_agree("schedule and encrypt", cipher, other);
+    refused |= she_aes_encrypt(key, 16, block, 16, other, 16);
+    must_agree("she_aes_encrypt", cipher, other);
+    bench_decrypt(schedule, cipher, other);
+    must_agree("decrypt", block, other);
+    bench_decrypt(schedule, block, other);
+    aes_ecb_decrypt(block, cipher, &tom);
+    must_agree("decrypt, libtomcrypt", cipher, other);
+    must_succeed("a block");
+}
+
+/* BearSSL's modes, of which two stand in for one block and a third for CMAC: its CBC-MAC is the last block of its CBC. */
+static void check_bearssl(size_t whole)
+{
+    uint8_t ours[16 * 9], theirs[16 * 9], last[16], start[16];
+#define CHECK_BEARSSL(kind)                                                                  \
+    refused |= she_cbc_encrypt(key, 16, iv, 16, text, whole, ours, whole);                   \
+    memcpy(theirs, text, whole), memcpy(start, iv, 16);                                      \
+    br_aes_##kind##_cbcenc_run(&kind##_enc, start, theirs, whole);                           \
+    must_agree_all("CBC encrypt, aes_" #kind, ours, theirs, whole);                          \
+    memcpy(last, iv, 16);                                                                    \
+    br_aes_##kind##_ctrcbc_mac(&kind##_mac, last, text, whole);                              \
+    must_agree("CBC-MAC, aes_" #kind, ours + whole - 16, last);                              \
+    refused |= she_cbc_decrypt(key, 16, iv, 16, text, whole, ours, whole);                   \
+    memcpy(theirs, text, whole), memcpy(start, iv, 16);                                      \
+    br_aes_##kind##_cbcdec_run(&kind##_dec, start, theirs, whole);                           \
+    must_agree_all("CBC decrypt, aes_" #kind, ours, theirs, whole);
+    CHECK_BEARSSL(small)
+    CHECK_BEARSSL(big)
+}
+
 /* The modes, on so many bytes of text, of which CMAC takes all and CBC the whole blocks. */
 static void check_modes(size_t bytes)
 {
@@ -289,70 +504,88 @@ static void check_modes(size_t bytes)
     unsigned long length = 16;
     for (size_t i = 0; i < padded; i++)
         text[i] = (uint8_t)rand();
-    bench_cmac(key, 16, 8 * bytes, text, padded, ours, 16);
+    refused |= she_cmac(key, 16, 8 * bytes, text, padded, ours, 16);
     omac_memory(tom_aes, key, 16, text, bytes, theirs, &length);
     must_agree("CMAC, libtomcrypt", ours, theirs);
-    bench_cbc_encrypt(key, 16, iv, 16, text, whole, ours, whole);
+    refused |= she_cbc_encrypt(key, 16, iv, 16, text, whole, ours, whole);
     cbc_setiv(iv, 16, &tom_cbc);
     cbc_encrypt(text, theirs, whole, &tom_cbc);
     must_agree_all("CBC encrypt, libtomcrypt", ours, theirs, whole);
-    bench_cbc_decrypt(key, 16, iv, 16, text, whole, ours, whole);
+    refused |= she_cbc_decrypt(key, 16, iv, 16, text, whole, ours, whole);
     cbc_setiv(iv, 16, &tom_cbc);
     cbc_decrypt(text, theirs, whole, &tom_cbc);
     must_agree_all("CBC decrypt, libtomcrypt", ours, theirs, whole);
+    check_bearssl(whole);
+    must_succeed("a mode");
+}
+
+static void check_commands(const uint8_t block[16])
+{
+    uint8_t cipher[16], other[16], status;
+    uid[0] = (uint8_t)(1 + rand() % 255);
+    make_devices();
+    bench_encrypt(schedule, block, cipher);
+    refused |= she_enc_ecb(&device, SHE_RAM_KEY, block, 16, other, 16);
+    must_agree("ENC_ECB with a plain key", cipher, other);
+    refused |= she_get_status(&device, &status);
+    refused |= status; /* neither random numbers nor a debugger */
+    refused |= she_reset(&device);
+    must_succeed("a command");
 }
 
 static void check_message(const char *what, const struct engine *e, uint32_t counter, uint8_t flags)
 {
     uint8_t ours[64], theirs[64];
-    if (bench_write_key(iv, 15, 4, 1, secret, 16, counter, flags, key, 16, ours, 16, ours + 16, 32, ours + 48, 16) != 0) {
-        fprintf(stderr, "bench: a key message is refused\n");
-        exit(1);
-    }
+    refused |= write_message(SHE_KEY_1, SHE_MASTER_ECU_KEY, secret, counter, flags, ours);
+    must_succeed("a key message");
     peer_write(e, counter, flags, theirs);
     must_agree_all(what, ours, theirs, 64);
 }
 
+/* KEY_1 is loaded with a key that is none of the device's, and a counter above 0, as a board that never had it asks. */
+static void check_load(const char *what, const struct engine *e, uint32_t counter, uint8_t flags)
+{
+    uint8_t m[64], ours[48], theirs[48], forged[48];
+    device = fresh;
+    refused |= she_write_key(uid, 15, SHE_KEY_1, SHE_MASTER_ECU_KEY, master, 16, counter, flags, secret, 16, m, 16, m + 16, 32,
+                             m + 48, 16);
+    refused |= load_message(m, ours);
+    refused |= peer_load(e, master, m, theirs);
+    must_succeed("LOAD_KEY");
+    must_agree_all(what, ours, theirs, 48);
+    m[rand() % 64] ^= 1;
+    if (peer_load(e, master, m, forged) == 0) {
+        fprintf(stderr, "bench: %s: a forged message is taken\n", what);
+        exit(1);
+    }
+}
+
 static void check(void)
 {
-    uint8_t block[16], cipher[16], other[16], zero[16];
+    uint8_t block[16];
     for (int i = 0; i < 1000; i++) {
         for (int k = 0; k < 16; k++) {
             key[k] = (uint8_t)rand();
+            iv[k] = (uint8_t)rand();
             block[k] = (uint8_t)rand();
         }
         make_keys();
-        bench_encrypt(schedule, block, cipher);
-        memcpy(other, block, 16), memset(zero, 0, 16);
-        br_aes_small_cbcenc_run(&small_enc, zero, other, 16);
-        must_agree("encrypt, aes_small", cipher, other);
-        memcpy(other, block, 16), memset(zero, 0, 16);
-        br_aes_big_cbcenc_run(&big_enc, zero, other, 16);
-        must_agree("encrypt, aes_big", cipher, other);
-        aes_ecb_encrypt(block, other, &tom);
-        must_agree("encrypt, libtomcrypt", cipher, other);
-        bench_encrypt_keyed(key, block, other);
-        must_agree("schedule and encrypt", cipher, other);
-        bench_decrypt(schedule, cipher, other);
-        must_agree("decrypt", block, other);
-        bench_decrypt(schedule, block, other);
-        aes_ecb_decrypt(block, cipher, &tom);
-        must_agree("decrypt, libtomcrypt", cipher, other);
-        uid[0] = (uint8_t)(1 + i % 255);
-        if (bench_status(uid, 15, key, 16, block, 16) != 0
-            || bench_plain_key(uid, 15, block, 16, block, 16, key, 16, block, 16, other, 16) != 0) {
-            fprintf(stderr, "bench: a command is refused\n");
-            exit(1);
-        }
-        bench_encrypt(schedule, block, cipher);
-        must_agree("ENC_ECB with a plain key", cipher, other);
+        check_engine(block);
         check_modes(16 + (size_t)i % 128);
+        check_commands(block);
         memcpy(secret, block, 16);
         check_message("key message, aes_small", &small_engine, (uint32_t)rand() % 0x10000000, i % 32);
         check_message("key message, aes_big", &big_engine, 0xfffffff - (uint32_t)i, i % 32);
         check_message("key message, libtomcrypt", &tom_engine, (uint32_t)i, i % 32);
+        check_load("LOAD_KEY, aes_small", &small_engine, 1 + (uint32_t)rand() % 0xfffffff, i % 32);
+        check_load("LOAD_KEY, aes_big", &big_engine, 0xfffffff - (uint32_t)i, i % 32);
+        check_load("LOAD_KEY, libtomcrypt", &tom_engine, (uint32_t)i + 1, i % 32);
     }
 }
+
+/* ---- times */
+
+static double best[WORK][WHO], best_command[COMMANDS];
 
 static double now(void)
 {
@@ -362,39 +595,217 @@ static double now(void)
 }
 
 /* Keeps the best of the rounds, in nanoseconds each. */
-static void measure(int round, void (*run)(void), int count, double *best)
+static void measure(int round, const char *name, void (*run)(void), int count, double *least)
 {
+    device = fresh;
     double start = now();
     run();
     double took = (now() - start) / count;
-    if (round == 0 || took < *best)
-        *best = took;
+    must_succeed(name);
+    if (round == 0 || took < *least)
+        *least = took;
 }
 
-int main(void)
+static void measure_all(int rounds)
 {
-    double best[WORK][WHO], status = 0, plain_key = 0;
-    check();
-    make_keys();
-    for (int round = 0; round < ROUNDS; round++) {
+    for (int round = 0; round < rounds; round++) {
         for (int i = 0; i < WORK; i++)
             for (int who = 0; who < WHO; who++)
-                measure(round, work[i].run[who], work[i].count, &best[i][who]);
-        measure(round, our_status, BLOCKS, &status);
-        measure(round, our_plain_key, BLOCKS, &plain_key);
+                measure(round, work[i].name, work[i].run[who], work[i].count, &best[i][who]);
+        for (int i = 0; i < COMMANDS; i++)
+            measure(round, commands[i].name, commands[i].run, BLOCKS, &best_command[i]);
     }
-    printf("%-22s %8s %10s %8s %11s   %s\n", "nanoseconds", "ours", "aes_small", "aes_big", "libtomcrypt", "ours / each of them");
-    for (int i = 0; i < WORK; i++) {
+    best_command[ECB] -= best[KEYED][OURS];
+}
+
+static void print_work(int rounds)
+{
+    printf("| nanoseconds, best of %d rounds | ours | aes_small | aes_big | libtomcrypt"
+           " | ours / aes_small | ours / aes_big | ours / libtomcrypt |\n"
+           "|---|--:|--:|--:|--:|--:|--:|--:|\n",
+           rounds);
+    for (int i = 0; i < BOOT; i++) {
         const double *b = best[i];
-        printf("%-22s %8.1f %10.1f %8.1f %11.1f   %.2f  %.2f  %.2f\n", work[i].name, b[OURS], b[SMALL], b[BIG], b[TOM],
+        printf("| %s | %.1f | %.1f | %.1f | %.1f | %.2f | %.2f | %.2f |\n", work[i].name, b[OURS], b[SMALL], b[BIG], b[TOM],
                b[OURS] / b[SMALL], b[OURS] / b[BIG], b[OURS] / b[TOM]);
     }
-    printf("ours, over 64 KiB, against the bare block: CBC encrypt %.3f, CBC decrypt %.3f, CMAC %.3f\n",
-           best[CBC_ENCRYPT][OURS] / best[ENCRYPT][OURS], best[CBC_DECRYPT][OURS] / best[DECRYPT][OURS],
-           best[CMAC][OURS] / best[ENCRYPT][OURS]);
-    printf("ours, a key message against its 10 blocks and 6 key schedules: %.3f\n",
-           best[MESSAGE][OURS] / (10 * best[ENCRYPT][OURS] + 6 * best[SCHEDULE][OURS]));
-    printf("ours, commands besides their cryptography: making and GET_STATUS %.1f; making, LOAD_PLAIN_KEY and ENC_ECB %.1f\n",
-           status, plain_key - best[KEYED][OURS]);
+}
+
+static void print_boot(void)
+{
+    printf("\n| milliseconds | ours | aes_small | aes_big | libtomcrypt | allowed |\n|---|--:|--:|--:|--:|--:|\n");
+    printf("| %s", work[BOOT].name);
+    for (int who = 0; who < WHO; who++)
+        printf(" | %.3f", best[BOOT][who] / 1e6);
+    printf(" | %d |\n", BOOT_MILLISECONDS);
+}
+
+static double ours_of(int encrypted, int decrypted, int schedules)
+{
+    return encrypted * best[ENCRYPT][OURS] + decrypted * best[DECRYPT][OURS] + schedules * best[SCHEDULE][OURS];
+}
+
+/* What ours costs besides the blocks and key schedules in it. */
+static void print_overhead(void)
+{
+    printf("\n| ours against its own blocks and key schedules | ratio |\n|---|--:|\n");
+    printf("| `she_aes_encrypt`: 1 block, 1 schedule | %.3f |\n", best[AES_ENCRYPT][OURS] / ours_of(1, 0, 1));
+    printf("| `she_cbc_encrypt`, a block of 4,096 | %.3f |\n", best[CBC_ENCRYPT][OURS] / ours_of(1, 0, 0));
+    printf("| `she_cbc_decrypt`, a block of 4,096 | %.3f |\n", best[CBC_DECRYPT][OURS] / ours_of(0, 1, 0));
+    printf("| `she_cmac`, a block of 4,096 | %.3f |\n", best[CMAC][OURS] / ours_of(1, 0, 0));
+    printf("| `she_write_key`: 10 blocks, 6 schedules | %.3f |\n", best[MESSAGE][OURS] / ours_of(10, 0, 6));
+    printf("| `she_load_key`: 16 blocks, 2 backwards, 12 schedules | %.3f |\n", best[LOAD][OURS] / ours_of(16, 2, 12));
+}
+
+static void print_commands(void)
+{
+    printf("\n| a command besides its cryptography | nanoseconds | must be under |\n|---|--:|--:|\n");
+    for (int i = 0; i < COMMANDS; i++)
+        printf("| %s | %.1f | %d |\n", commands[i].name, best_command[i], COMMAND_NANOSECONDS);
+}
+
+/* ---- stack: each function runs on a stack of its own that is painted before, and looked at after.
+ *
+ * What counts is the lowest byte that lost its paint, up to a multiple of 16, less the same of a call of a function that does
+ * nothing. It is painted twice, in two colours, so that a byte written in the one colour shows in the other. So the figure has
+ * the frames of the function and of all that it calls (memcpy too), and the arguments that are passed on the stack. Two things
+ * it can't see: what a frame reserves at its lower end and doesn't write, and ways through a function other than the one taken,
+ * which is that of success, on long inputs. The greatest sum of frames along the calls, in the disassembly, has both; on aarch64
+ * the figures were these sums, but for 16 bytes of she_make. Another compiler or processor has other frames. */
+
+enum { STACK = 65536 };
+
+static _Alignas(16) uint8_t stack[STACK];
+static ucontext_t outside, inside;
+static uint8_t (*on_stack)(void), answer, byte; /* what is called, its answer, and a verdict or a status */
+
+#define BUFFERS text, sizeof text, other_text, sizeof other_text
+#define THREE messages, 16, messages + 16, 32, messages + 48, 16
+#define PROOF proofs, 32, proofs + 32, 16
+#define CALLS(CALL)                                                                                                         \
+    CALL(she_aes_encrypt, fresh, key, 16, text, 16, mac, 16)                                                                \
+    CALL(she_aes_decrypt, fresh, key, 16, text, 16, mac, 16)                                                                \
+    CALL(she_cbc_encrypt, fresh, key, 16, iv, 16, BUFFERS)                                                                  \
+    CALL(she_cbc_decrypt, fresh, key, 16, iv, 16, BUFFERS)                                                                  \
+    CALL(she_cmac, fresh, key, 16, 8 * sizeof text, text, sizeof text, mac, 16)                                             \
+    CALL(she_kdf, fresh, key, 16, text, 16, mac, 16)                                                                        \
+    CALL(she_write_key, fresh, uid, 15, SHE_KEY_1, SHE_MASTER_ECU_KEY, master, 16, 1, SHE_ALL_FLAGS, key, 16, THREE)        \
+    CALL(she_write_key_short, fresh, uid, 15, SHE_KEY_1, SHE_MASTER_ECU_KEY, master, 16, 1, key, 16, THREE)                 \
+    CALL(she_fleet_sheet, fresh, SHE_KEY_1, SHE_MASTER_ECU_KEY, master, 16, 1, key, 16, THREE)                              \
+    CALL(she_write_answer, fresh, uid, 15, SHE_KEY_1, SHE_MASTER_ECU_KEY, 1, key, 16, PROOF)                                \
+    CALL(she_make, fresh, &device, uid, 15, key, 16, iv, 16)                                                                \
+    CALL(she_reset, started, &device)                                                                                       \
+    CALL(she_attach_debugger, fresh, &device)                                                                               \
+    CALL(she_enc_ecb, fresh, &device, SHE_RAM_KEY, text, 16, mac, 16)                                                       \
+    CALL(she_dec_ecb, fresh, &device, SHE_RAM_KEY, text, 16, mac, 16)                                                       \
+    CALL(she_enc_cbc, fresh, &device, SHE_RAM_KEY, iv, 16, BUFFERS)                                                         \
+    CALL(she_dec_cbc, fresh, &device, SHE_RAM_KEY, iv, 16, BUFFERS)                                                         \
+    CALL(she_generate_mac, fresh, &device, SHE_RAM_KEY, 8 * sizeof text, text, sizeof text, mac, 16)                        \
+    CALL(she_verify_mac, fresh, &device, SHE_RAM_KEY, 8 * sizeof text, text, sizeof text, text_mac, 16, 0, &byte)           \
+    CALL(she_load_key, fresh, &device, row[0], 16, row[0] + 16, 32, row[0] + 48, 16, PROOF)                                 \
+    CALL(she_load_plain_key, fresh, &device, key, 16)                                                                       \
+    CALL(she_export_ram_key, fresh, &device, THREE, PROOF)                                                                  \
+    CALL(she_init_rng, fresh, &device)                                                                                      \
+    CALL(she_extend_seed, started, &device, key, 16)                                                                        \
+    CALL(she_rnd, started, &device, mac, 16)                                                                                \
+    CALL(she_get_status, started, &device, &byte)                                                                           \
+    CALL(she_get_id, started, &device, key, 16, proofs, 32)
+
+/* What follows the call keeps the compiler from jumping to the function, so that all have the same small frame above. */
+#define DEFINE(function, from, ...)         \
+    static uint8_t call_##function(void)    \
+    {                                       \
+        uint8_t a = function(__VA_ARGS__);  \
+        __asm__ volatile("" : "+r"(a));     \
+        return a;                           \
+    }
+CALLS(DEFINE)
+
+#define NAME(function, from, ...) {#function, call_##function, &from},
+static const struct {
+    const char *name;
+    uint8_t (*run)(void);
+    const struct she_device *from; /* the device that it needs */
+} calls[] = {CALLS(NAME)};
+
+static __attribute__((noinline)) uint8_t nothing(void)
+{
+    __asm__ volatile(""); /* or the call would be left out */
     return 0;
+}
+DEFINE(nothing, fresh)
+
+static void call_it(void) { answer = on_stack(); }
+
+static size_t touched(uint8_t (*run)(void), const struct she_device *from, uint8_t paint)
+{
+    size_t untouched = 0;
+    device = *from;
+    memset(stack, paint, sizeof stack);
+    getcontext(&inside);
+    inside.uc_stack.ss_sp = stack;
+    inside.uc_stack.ss_size = sizeof stack;
+    inside.uc_link = &outside;
+    on_stack = run;
+    makecontext(&inside, call_it, 0);
+    swapcontext(&outside, &inside);
+    refused |= answer;
+    while (untouched < sizeof stack && stack[untouched] == paint)
+        untouched++;
+    return (sizeof stack - untouched + 15) / 16 * 16;
+}
+
+/* The first call stands outside, so that what the linker does at a function's first call is done with. */
+static size_t depth(const char *name, uint8_t (*run)(void), const struct she_device *from)
+{
+    device = *from;
+    refused |= run();
+    size_t one = touched(run, from, 0xa5), other = touched(run, from, 0x5a);
+    must_succeed(name);
+    return one > other ? one : other;
+}
+
+/* Prints all, and gives the most. */
+static size_t print_stack(void)
+{
+    size_t empty = depth("an empty call", call_nothing, &fresh), most = 0;
+    printf("\n| stack | bytes |\n|---|--:|\n");
+    for (size_t i = 0; i < sizeof calls / sizeof calls[0]; i++) {
+        size_t bytes = depth(calls[i].name, calls[i].run, calls[i].from) - empty;
+        printf("| `%s` | %zu |\n", calls[i].name, bytes);
+        if (bytes > most)
+            most = bytes;
+    }
+    printf("| the most of all | %zu |\n", most);
+    printf("| `SHE_STACK_BYTES` of she.h | %d |\n", SHE_STACK_BYTES);
+    return most;
+}
+
+/* Whether what was measured keeps what is promised. SHE_STACK_BYTES is 0 as long as nothing is promised. */
+static int judge(size_t most)
+{
+    int wrong = 0;
+    if (best_command[STATUS] >= COMMAND_NANOSECONDS)
+        wrong = fprintf(stderr, "bench: she_get_status takes %d ns or more\n", COMMAND_NANOSECONDS);
+    if (SHE_STACK_BYTES != 0 && most > SHE_STACK_BYTES)
+        wrong = fprintf(stderr, "bench: the stack goes deeper than SHE_STACK_BYTES\n");
+    return wrong != 0;
+}
+
+int main(int arguments, char **argument)
+{
+    int quick = arguments == 2 && strcmp(argument[1], "--quick") == 0, rounds = quick ? QUICK_ROUNDS : ROUNDS;
+    check();
+    make_keys();
+    make_devices();
+    write_row();
+    measure_all(rounds);
+    print_work(rounds);
+    print_boot();
+    print_overhead();
+    print_commands();
+    if (quick)
+        return 0;
+    refused |= she_cmac(master, 16, 8 * sizeof text, text, sizeof text, text_mac, 16); /* for she_verify_mac to find right */
+    return judge(print_stack());
 }

@@ -1,18 +1,67 @@
 #!/bin/sh
-# Measures our AES against BearSSL's and libtomcrypt's, built for this machine, in one run.
+# Measures ours beside BearSSL's and libtomcrypt's, built for this machine, in one run: times, stack and size. Stdout is Markdown,
+# for docs/PERFORMANCE.md as it is. Fails where the program does, and where the library needs more than it may.
 set -eu
 cd "$(dirname "$0")/.."
 missing=''
-for package in gcc libbearssl-dev libtomcrypt-dev; do
+for package in gcc binutils libbearssl-dev libtomcrypt-dev; do
     dpkg -s "$package" >/dev/null 2>&1 || missing="$missing $package"
 done
 if [ -n "$missing" ]; then
-    echo "installing:$missing"
-    apt-get update -qq
+    echo "installing:$missing" >&2
+    apt-get update -qq >&2
     # shellcheck disable=SC2086
     apt-get install -y -qq $missing >/dev/null
 fi
-sh tests/native-archive.sh bench
-gcc -O2 -Wall -Wextra -Werror -o target/native/bench tests/bench.c target/native/libbench.a -lbearssl -ltomcrypt
-echo "$(uname -m), $(rt version)"
-target/native/bench
+sh tests/native-archive.sh bench >&2
+sh tests/native-archive.sh board >&2
+library=target/native/libboard.a
+tables=target/native/bench.md
+gcc -O2 -Wall -Wextra -Werror -Iinclude -o target/native/bench tests/bench.c target/native/libbench.a "$library" \
+    -lbearssl -ltomcrypt
+
+fail() {
+    echo "bench: $1" >&2
+    exit 1
+}
+
+version_of() {
+    # shellcheck disable=SC2016
+    dpkg-query -W -f '${Version}' "$1"
+}
+
+# Some kernels leave the name out of /proc/cpuinfo.
+processor=$(sed -n 's/^model name[^:]*: *//p' /proc/cpuinfo | head -n 1)
+[ -n "$processor" ] || processor=$(LC_ALL=C lscpu | sed -n 's/^Model name: *//p' | head -n 1)
+echo "$(date +%Y-%m-%d), $processor, $(uname -m), gcc $(gcc -dumpfullversion), $(rt version)," \
+    "BearSSL $(version_of libbearssl-dev), libtomcrypt $(version_of libtomcrypt-dev), by \`make bench\`:"
+echo
+
+status=0
+target/native/bench >"$tables" || status=$?
+cat "$tables"
+[ "$status" = 0 ] || exit "$status"
+
+# No function of the library is left out of the stack's table.
+for function in $(nm -g --defined-only "$library" | awk '$2 == "T" { print $3 }'); do
+    grep -q "^| \`$function\` | [0-9]* |\$" "$tables" || fail "the stack of $function is not measured"
+done
+
+calls=$(nm -u "$library" | awk 'NF == 2 { print $2 }' | sort -u | paste -s -d ' ' -)
+echo
+echo "| \`libboard.a\`, built for this processor | bytes |"
+echo '|---|--:|'
+size -A "$library" | awk '
+    /^\.text/ { text += $(NF - 1) }
+    /^\.rodata/ { rodata += $(NF - 1) }
+    /^\.data/ { data += $(NF - 1) }
+    /^\.bss/ { bss += $(NF - 1) }
+    END { printf "| text | %d |\n| rodata | %d |\n| data | %d |\n| bss | %d |\n", text, rodata, data, bss }'
+echo
+echo "Symbols that \`libboard.a\` leaves to the program: $calls"
+for call in $calls; do
+    case $call in
+    memcpy | memset | memmove | memcmp | bcmp) ;;
+    *) fail "the library may not call $call" ;;
+    esac
+done

@@ -1,7 +1,7 @@
 #!/bin/sh
 # The gate: everything is proved from nothing, the must-fail edits are refused, the programs write what they should, the files
-# are in the layout, the tests beside the proofs pass, and no public routine lacks its promise in docs/. The last line is
-# 'N passed, M failed', and the status is 0 only where M is 0.
+# are in the layout, the tests beside the proofs and those from C pass, and no public routine lacks its promise in docs/. The last
+# line is 'N passed, M failed', and the status is 0 only where M is 0.
 set -u
 cd "$(dirname "$0")/.." || exit 2
 passed=0 failed=0
@@ -32,6 +32,10 @@ esac
 
 rt fmt --check
 count $? "the layout of the files (rt fmt)"
+python3 tools/in_place.py --check
+count $? "the proofs of what takes the record in place, as they are written from its source"
+sh tests/c.sh
+count $? "the library as C has it"
 python3 tests/compare.py sh tests/run-program.sh vectors
 count $? "the comparison with the second program"
 python3 tests/cases.py <crates/cases/stdin | cmp - crates/cases/stdout

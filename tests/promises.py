@@ -5,7 +5,8 @@ Of every function that another crate or C can call: it has a row in the table of
 definition that its contract equates the outcome with is the one that the row names, in the file that the row names, and at least
 two wrong programs are named. Every one that the table names is an edit that is there, and every edit that is there is named.
 Every theorem that a table names is in its file. The definitions that `step` of crate `demands` gives its calls are those that
-the commands promise, so that a theorem about `step` is one about the code, and about all of it.
+the commands promise, by value and in place, so that a theorem about `step` is one about the code, and about all of it. And
+include/she.h declares what crate `board` exports, and nothing else.
 
 Writes each fault that it finds, and how much it looked at. The status is 0 only where there is no fault.
 """
@@ -122,16 +123,32 @@ def hold_theorems():
 
 
 def hold_calls(routines):
-    """`step` and the routines that promise an outcome have the same definitions; making alone is no call"""
+    """`step` and the routines that promise an outcome have the same definitions, by value and in place; making alone is no call"""
     calls = (CRATES / "demands/specs/Calls.antt").read_text()
     steps = set(re.findall(r"^step n d .* = (?:commands\.)?(\w+) (?:n )?d\b", calls, re.M))
-    heads = [head for (crate, _), head in routines.items() if crate in ("commands", "load")]
-    promised = {name for head in heads for name in re.findall(r"outcome .* ≡ (\w+)", head)}
-    for definition in steps - promised:
-        check(False, f"`step` uses {definition}, which no routine promises")
-    for definition in promised - steps - {"make"}:
-        check(False, f"a routine promises {definition}, which is the definition of no call")
+    for crates, making in ((("commands", "load"), "make"), (("board",), "makeAnew")):
+        heads = [head for (crate, _), head in routines.items() if crate in crates]
+        promised = {name for head in heads for name in re.findall(r"outcome .* ≡ (\w+)", head)}
+        for definition in (steps | {making}) - promised:
+            check(False, f"no routine of {', '.join(crates)} promises {definition}")
+        for definition in promised - steps - {making}:
+            check(False, f"a routine of {', '.join(crates)} promises {definition}, which is the definition of no call")
     return len(steps)
+
+
+def hold_header(routines):
+    """every routine of crate `board` is declared in include/she.h, with as many parameters, and nothing else is"""
+    header = (ROOT / "include" / "she.h").read_text()
+    declared = dict(re.findall(r"^uint8_t (she_\w+)\(([^)]*)\);", header, re.M))
+    exported = {name: head for (crate, name), head in routines.items() if crate == "board"}
+    for name in declared.keys() ^ exported.keys():
+        check(False, f"{name} is in one of she.h and crate board only")
+    for name in declared.keys() & exported.keys():
+        parameters = exported[name].partition(") -> u8")[0]
+        # a slice is a pointer and a length
+        count = len(re.findall(r": ", parameters)) + parameters.count("[u8]")
+        check(count == declared[name].count(",") + 1, f"{name} has another number of parameters in she.h")
+    return len(declared)
 
 
 def main():
@@ -140,9 +157,10 @@ def main():
     edits = hold_promises(routines)
     theorems = hold_theorems()
     calls = hold_calls(routines)
+    declared = hold_header(routines)
     for fault in faults:
         print(f"promises: {fault}")
-    looked = f"{len(routines)} routines, {edits} wrong programs, {theorems} names of theorems, {calls} calls"
+    looked = f"{len(routines)} routines, {edits} wrong programs, {theorems} names of theorems, {calls} calls, {declared} in she.h"
     print(f"promises: {looked}, {len(faults)} faults")
     return 1 if faults else 0
 

@@ -1,0 +1,163 @@
+-- Wide numbers. Where a number is wider than its place, a definition refuses it and the largest of the place alike; so it says the
+-- same of a number and of the number saturated.
+-- Assumes nothing.
+use mathlib.Core.Path.{_≡_, refl, sym, ap, _∙_}
+use mathlib.Core.Bool.{Bool, true, false, not, cond, _&&_, and-false}
+use mathlib.Core.List.{List}
+use Prim.Native.Nat.{ℕ, _≤_, _<_}
+use native.Mathlib.Omega.{arith}
+use borrow.Author.Tests.{le-leb, lt-leb, leb-false, eqb-true, eqb-false}
+use lib.Dec.{eqb, leb}
+use lib.ListN.{length}
+use Rattle.laws.specs.Lengths.{right}
+use Rattle.modes.specs.Answer.{generalError}
+use Rattle.message.specs.Answer.{keyInvalid}
+use Rattle.message.specs.FirstBlock.{maxCounter}
+use Rattle.message.specs.Slots.{allowed}
+use Rattle.message.specs.Writer.{messageLengths, messageAnswer, fullForm, shortFlags, shortForm, proofLengths, answerForm}
+use Rattle.message.specs.declared.Role.{Role}
+use Rattle.message.proofs.Slots.{role-15, pair-15, pair-slots}
+use Rattle.message.proofs.Written.{no-faults, messages-refused, proof-refused}
+use Rattle.device.specs.Made.{made}
+use Rattle.device.specs.Outcome.{Outcome, refused, decided}
+use Rattle.device.specs.declared.Device.{Device}
+use Rattle.device.proofs.Outcome.{is-refused, not-long, made-and-long}
+use Rattle.commands.specs.Checks.{slotChecks, useAnswer}
+use Rattle.board.specs.Board.{saturated}
+
+-- what is the same for the limit and for every number above it, is the same for a number and for it saturated
+pub saturates : {X : Type 0} (says : ℕ → X) (limit n : ℕ) → (limit < n → says limit ≡ says n) → says (saturated limit n) ≡ says n
+unfolding saturated
+saturates says limit n wide = tests (leb n limit) refl
+  where
+    tests : (b : Bool) → leb n limit ≡ b → says (cond b n limit) ≡ says n
+    tests true e = refl
+    tests false e = wide (leb-false n limit e)
+
+-- a number that fits is itself
+pub fitting : (limit n : ℕ) → n ≤ limit → saturated limit n ≡ n
+unfolding saturated
+fitting limit n h = ap (λ (b : Bool). cond b n limit) (le-leb n limit h)
+
+-- ---- the slot of a command
+module _ (d : Device) (lengths : Bool) (role : Role) (before : List (List ℕ)) (success : ℕ → Outcome) where
+  -- what is answered to a slot that is none
+  turned-away : ℕ
+  turned-away = cond (not (made d)) generalError (cond (not lengths) generalError keyInvalid)
+
+  no-slot : (slot : ℕ) → 15 ≤ slot → refused turned-away d before ≡ decided (useAnswer d lengths slot role) d before (success slot)
+  unfolding useAnswer turned-away
+  no-slot slot h =
+      is-refused turned-away (useAnswer d lengths slot role) d before (success slot)
+      (rw (sym (role-15 slot role h)) refl)
+      (λ z. absurd (omega (arith, made-and-long d lengths keyInvalid z .2)))
+
+  pub wide-slot : (slot : ℕ) → decided (useAnswer d lengths (saturated 255 slot) role) d before (success (saturated 255 slot))
+      ≡ decided (useAnswer d lengths slot role) d before (success slot)
+  wide-slot slot =
+      saturates (λ (s : ℕ). decided (useAnswer d lengths s role) d before (success s)) 255 slot
+      (λ h. sym (no-slot 255 (omega arith)) ∙ no-slot slot (omega arith))
+
+-- ---- the length of a MAC, 0 to 127
+module _ (d : Device) (lengths : Bool) (slot : ℕ) (role : Role) (before : List (List ℕ)) (success : ℕ → Outcome) where
+  too-long : (n : ℕ) → 127 < n
+      → refused generalError d before ≡ decided (useAnswer d (lengths && leb n 127) slot role) d before (success n)
+  unfolding useAnswer
+  too-long n h =
+      is-refused generalError (useAnswer d (lengths && leb n 127) slot role) d before (success n)
+      (sym (not-long d (lengths && leb n 127) (slotChecks d slot role)
+      (ap (λ (b : Bool). lengths && b) (lt-leb n 127 h) ∙ and-false lengths)))
+      (λ z. absurd (omega arith))
+
+  pub wide-length : (n : ℕ)
+      → decided (useAnswer d (lengths && leb (saturated 255 n) 127) slot role) d before (success (saturated 255 n))
+      ≡ decided (useAnswer d (lengths && leb n 127) slot role) d before (success n)
+  wide-length n =
+      saturates (λ (m : ℕ). decided (useAnswer d (lengths && leb m 127) slot role) d before (success m)) 255 n
+      (λ h. sym (too-long 255 (omega arith)) ∙ too-long n (omega arith))
+
+-- ---- the numbers of a key message: counter, flags and the two slots
+wide-test : (limit bound n : ℕ) → bound < limit → leb (saturated limit n) bound ≡ leb n bound
+wide-test limit bound n room =
+    saturates (λ (m : ℕ). leb m bound) limit n (λ h. lt-leb limit bound room ∙ sym (lt-leb n bound (omega arith)))
+
+no-authority : (t a : ℕ) → 13 < a → allowed t a ≡ false
+no-authority t a h = tests (allowed t a) refl
+  where
+    tests : (b : Bool) → allowed t a ≡ b → b ≡ false
+    tests true e = absurd (omega (arith, pair-slots t a e .2, h))
+    tests false e = refl
+
+wide-pair : (t a : ℕ) → allowed (saturated 255 t) (saturated 255 a) ≡ allowed t a
+wide-pair t a =
+    saturates (λ (s : ℕ). allowed s (saturated 255 a)) 255 t (λ h. sym (pair-15 255 _ (omega arith)) ∙ pair-15 t _ (omega arith))
+    ∙ saturates (allowed t) 255 a (λ h. no-authority t 255 (omega arith) ∙ sym (no-authority t a (omega arith)))
+
+abbrev limit32 : ℕ
+limit32 = 0xffffffff
+
+wide-answer : (lengths : Bool) (c f t a : ℕ)
+    → messageAnswer lengths (saturated limit32 c) (saturated 255 f) (saturated 255 t) (saturated 255 a)
+    ≡ messageAnswer lengths c f t a
+unfolding messageAnswer
+wide-answer lengths c f t a =
+    rw (wide-test limit32 maxCounter c (omega arith), wide-test 255 31 f (omega arith), wide-pair t a) refl
+
+-- numbers that are answered 0 fit
+all-fit : (lengths : Bool) (c f t a : ℕ) → messageAnswer lengths c f t a ≡ 0
+    → (saturated limit32 c ≡ c) × (saturated 255 f ≡ f) × (saturated 255 t ≡ t) × (saturated 255 a ≡ a)
+all-fit lengths c f t a e =
+    let fine = no-faults lengths c f t a e in
+    let slots = pair-slots t a (fine .3) in
+    let counter = fitting limit32 c (omega (arith, fine .1)) in
+    let flags = fitting 255 f (omega (arith, fine .2)) in
+    (counter, flags, fitting 255 t (omega (arith, slots .1)), fitting 255 a (omega (arith, slots .2)))
+
+pub wide-form : (uid secret key b1 b2 b3 : List ℕ) (t a c f : ℕ)
+    → fullForm uid (saturated 255 t) (saturated 255 a) secret (saturated limit32 c) (saturated 255 f) key b1 b2 b3
+    ≡ fullForm uid t a secret c f key b1 b2 b3
+wide-form uid secret key b1 b2 b3 t a c f = tests (eqb answer 0) refl
+  where
+    lengths : Bool
+    lengths = right (messageLengths (length uid) (length secret) (length key) (length b1) (length b2) (length b3))
+
+    answer : ℕ
+    answer = messageAnswer lengths c f t a
+
+    tests : (b : Bool) → eqb answer 0 ≡ b
+        → fullForm uid (saturated 255 t) (saturated 255 a) secret (saturated limit32 c) (saturated 255 f) key b1 b2 b3
+        ≡ fullForm uid t a secret c f key b1 b2 b3
+    tests true e = let fit = all-fit lengths c f t a (eqb-true answer 0 e) in rw (fit .0, fit .1, fit .2, fit .3) refl
+    tests false e =
+        sym (messages-refused uid secret key b1 b2 b3 _ _ _ _ answer (sym (wide-answer lengths c f t a)) (eqb-false answer 0 e))
+        ∙ messages-refused uid secret key b1 b2 b3 t a c f answer refl (eqb-false answer 0 e)
+
+pub wide-short : (uid secret key b1 b2 b3 : List ℕ) (t a c : ℕ)
+    → shortForm uid (saturated 255 t) (saturated 255 a) secret (saturated limit32 c) key b1 b2 b3
+    ≡ shortForm uid t a secret c key b1 b2 b3
+wide-short uid secret key b1 b2 b3 t a c =
+    ap (λ (f : ℕ). fullForm uid (saturated 255 t) (saturated 255 a) secret (saturated limit32 c) f key b1 b2 b3)
+    (sym (fitting 255 shortFlags (omega arith)))
+    ∙ wide-form uid secret key b1 b2 b3 t a c shortFlags
+
+pub wide-proof : (uid key b4 b5 : List ℕ) (t a c : ℕ)
+    → answerForm uid (saturated 255 t) (saturated 255 a) (saturated limit32 c) key b4 b5 ≡ answerForm uid t a c key b4 b5
+wide-proof uid key b4 b5 t a c = tests (eqb answer 0) refl
+  where
+    lengths : Bool
+    lengths = right (proofLengths (length uid) (length key) (length b4) (length b5))
+
+    answer : ℕ
+    answer = messageAnswer lengths c 0 t a
+
+    same : answer ≡ messageAnswer lengths (saturated limit32 c) 0 (saturated 255 t) (saturated 255 a)
+    same =
+        sym (wide-answer lengths c 0 t a)
+        ∙ ap (λ (f : ℕ). messageAnswer lengths (saturated limit32 c) f (saturated 255 t) (saturated 255 a)) (fitting 255 0 (omega arith))
+
+    tests : (b : Bool) → eqb answer 0 ≡ b
+        → answerForm uid (saturated 255 t) (saturated 255 a) (saturated limit32 c) key b4 b5 ≡ answerForm uid t a c key b4 b5
+    tests true e = let fit = all-fit lengths c 0 t a (eqb-true answer 0 e) in rw (fit .0, fit .2, fit .3) refl
+    tests false e =
+        sym (proof-refused uid key b4 b5 _ _ _ answer same (eqb-false answer 0 e))
+        ∙ proof-refused uid key b4 b5 t a c answer refl (eqb-false answer 0 e)

@@ -1,0 +1,40 @@
+-- `board::enc_cbc` meets its contract: a slot too wide is no slot.
+-- Assumes nothing.
+use Rattle.board.proofs.Wide.{wide-slot}
+use Rattle.aes.specs.Cipher.{cipher}
+use Rattle.commands.specs.Commands.{encCbc}
+use Rattle.device.specs.Outcome.{done}
+use Rattle.device.specs.Record.{keyAt}
+use Rattle.message.specs.declared.Role.the-variants.{Cipher}
+use Rattle.modes.specs.Answer.{cbcLengths}
+use Rattle.modes.specs.Cbc.{cbcEncrypt}
+use borrow.Author.Needs.{needs}
+use lib.ListN.{length}
+use mathlib.Core.List.{[], _∷_}
+use mathlib.Core.Path.{ap, _∙_}
+use Prim.Native.Nat.{ℕ}
+use Rattle.board.proofs.enc_cbc.Statement.{statement}
+use Rattle.board.proofs.enc_cbc.Tie as tie
+
+to-byte-requires : tie.Need-to-byte-requires
+to-byte-requires c κs = search needs
+
+enc-cbc-requires : tie.Need-enc-cbc-requires
+enc-cbc-requires c κs = search needs
+
+same-length : tie.Need-same-length
+same-length c = search needs
+
+returns : tie.Need-returns
+unfolding encCbc
+returns c = let call = c .before .before in
+    let byte = call .before .before in
+    let a = byte .before .before .before .before .args in
+    call .enc-cbc .ensures
+    ∙ ap (λ (slot : ℕ). encCbc (a .device) slot (a .iv .now) (a .input .now) (a .output .now)) (byte .to-byte .ensures)
+    ∙ wide-slot (a .device) (cbcLengths 16 (length (a .iv .now)) (length (a .input .now)) (length (a .output .now)))
+    Cipher (a .output .now ∷ [])
+    (λ (slot : ℕ). done (a .device) 0 (cbcEncrypt (cipher (keyAt (a .device) slot)) (a .iv .now) (a .input .now) ∷ [])) (a .slot)
+
+pub enc-cbc-spec : {M : Type 1} → statement M
+enc-cbc-spec = tie.close (tie.spec to-byte-requires enc-cbc-requires same-length returns)

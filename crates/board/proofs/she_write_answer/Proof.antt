@@ -1,0 +1,47 @@
+-- `board::she_write_answer` meets its contract: a number too wide is refused, as it is in the core.
+-- Assumes nothing.
+use Rattle.board.proofs.Wide.{wide-proof}
+use borrow.Author.Needs.{needs}
+use mathlib.Core.Path.{_∙_}
+use Rattle.board.proofs.she_write_answer.Statement.{statement}
+use Rattle.board.proofs.she_write_answer.Tie as tie
+
+to-byte-requires : tie.Need-to-byte-requires
+to-byte-requires c κs = search needs
+
+to-byte-requires-2 : tie.Need-to-byte-requires-2
+to-byte-requires-2 c κs = search needs
+
+to-counter-requires : tie.Need-to-counter-requires
+to-counter-requires c κs = search needs
+
+write-answer-requires : tie.Need-write-answer-requires
+write-answer-requires c κs = search needs
+
+same-length : tie.Need-same-length
+same-length c = search needs
+
+same-length-2 : tie.Need-same-length-2
+same-length-2 c = search needs
+
+returns : tie.Need-returns
+returns c = let call = c .before .before .before .before in
+    let counter = call .before .before .before in
+    let authority = counter .before in
+    let target = authority .before in
+    let a = target .before .before .before .before .before .args in
+    call .write-answer .ensures
+    ∙ rw (target .to-byte .ensures, authority .to-byte2 .ensures, counter .to-counter .ensures)
+    (wide-proof (a .uid .now) (a .key .now) (a .m4 .now) (a .m5 .now) (a .target) (a .authority) (a .counter))
+
+pub she-write-answer-spec : {M : Type 1} → statement M
+she-write-answer-spec =
+    tie.close
+    (tie.spec
+    to-byte-requires
+    to-byte-requires-2
+    to-counter-requires
+    write-answer-requires
+    same-length
+    same-length-2
+    returns)

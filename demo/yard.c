@@ -1,0 +1,264 @@
+/* A day in the yard: the museum workshop brings a board to life, gives it its keys, and the board does its work and refuses what is
+ * wrong. Everything here goes through include/she.h, as firmware would; the sender's side, the foreman with the key sheets, uses
+ * the same library.
+ *
+ * Each step says what was asked, what the board answered, and whether that is as it should be. The program writes the same
+ * lines on every machine, and its status is 0 only where nothing was otherwise than it should be. */
+#include "she.h"
+
+#include <stdio.h>
+#include <string.h>
+
+static int surprises;
+
+/* ---- telling */
+
+static const char *const answers[] = {
+    "done",          "out of turn",      "key locked",         "no such slot, role or pair", "slot empty", "no secure boot",
+    "write-locked",  "message refused",  "no random numbers",  "no debugging",               "busy",       "memory failure",
+    "wrong length or not made",
+};
+
+static void hour(const char *time, const char *what) { printf("\n%s  %s\n", time, what); }
+
+/* What was asked, and the answer, which should be the one given. */
+static void step(const char *asked, uint8_t answer, enum she_answer wanted)
+{
+    int fine = answer == wanted;
+    printf("       %-62s %2d %s%s\n", asked, answer, answer <= SHE_GENERAL_ERROR ? answers[answer] : "no answer of the table",
+           fine ? "" : "   <-- NOT AS IT SHOULD BE");
+    surprises += !fine;
+}
+
+static void note(const char *what, int holds)
+{
+    printf("       %-62s    %s\n", what, holds ? "yes" : "NO   <-- NOT AS IT SHOULD BE");
+    surprises += !holds;
+}
+
+static void bytes(const char *name, const uint8_t *data, size_t count)
+{
+    printf("       %-10s", name);
+    for (size_t i = 0; i < count; i++)
+        printf("%02x", data[i]);
+    printf("\n");
+}
+
+/* ---- the boards, and what the foreman has in his safe */
+
+static struct she_device bus_12, bus_7;
+
+static const uint8_t uid_12[SHE_UID] = {'b', 'u', 's', ' ', '1', '2', 0, 0, 0, 0, 0, 0, 0, 0, 1};
+static const uint8_t uid_7[SHE_UID] = {'b', 'u', 's', ' ', '7', 0, 0, 0, 0, 0, 0, 0, 0, 0, 2};
+static const uint8_t secret_12[SHE_BLOCK] = "from the factory", secret_7[SHE_BLOCK] = "another of these";
+static const uint8_t seed_12[SHE_BLOCK] = "first dice throw", seed_7[SHE_BLOCK] = "next throw of it";
+static const uint8_t empty_key[SHE_BLOCK] = {255, 255, 255, 255, 255, 255, 255, 255, 255, 255, 255, 255, 255, 255, 255, 255};
+static const uint8_t master[SHE_BLOCK] = "the master's key", new_master[SHE_BLOCK] = "one master later";
+static const uint8_t door[SHE_BLOCK] = "opens the doors.", brake[SHE_BLOCK] = "stops the wheels";
+static const uint8_t horn[SHE_BLOCK] = "for all our horn";
+static const uint8_t guest[SHE_BLOCK] = "for today only..";
+
+enum { DOOR_SLOT = SHE_KEY_1, BRAKE_SLOT, HORN_SLOT };
+
+/* ---- key messages: three from the foreman to the board, and two back */
+
+struct letter {
+    uint8_t m1[16], m2[32], m3[16];
+};
+struct receipt {
+    uint8_t m4[32], m5[16];
+};
+
+#define WHOLE(buffer) (buffer), sizeof(buffer)
+
+static uint8_t write_letter(struct letter *out, const uint8_t *uid, uint32_t target, uint32_t authority, const uint8_t *authority_key,
+                            uint64_t counter, uint32_t flags, const uint8_t *key)
+{
+    return she_write_key(uid, SHE_UID, target, authority, authority_key, SHE_BLOCK, counter, flags, key, SHE_BLOCK, WHOLE(out->m1),
+                         WHOLE(out->m2), WHOLE(out->m3));
+}
+
+static uint8_t deliver(struct she_device *board, const struct letter *in, struct receipt *back)
+{
+    return she_load_key(board, WHOLE(in->m1), WHOLE(in->m2), WHOLE(in->m3), WHOLE(back->m4), WHOLE(back->m5));
+}
+
+/* What the foreman expects back is written from his own papers; only a board that has the new key can write the same. */
+static int is_proved(const struct receipt *back, const uint8_t *uid, uint32_t target, uint32_t authority, uint64_t counter,
+                     const uint8_t *key)
+{
+    struct receipt expected;
+    return she_write_answer(uid, SHE_UID, target, authority, counter, key, SHE_BLOCK, WHOLE(expected.m4), WHOLE(expected.m5)) == 0
+           && memcmp(back, &expected, sizeof expected) == 0;
+}
+
+/* A key is written, delivered, and its receipt compared. */
+static void bring(const char *what, uint32_t target, uint32_t authority, const uint8_t *authority_key, uint64_t counter,
+                  uint32_t flags, const uint8_t *key)
+{
+    struct letter letter;
+    struct receipt back;
+    write_letter(&letter, uid_12, target, authority, authority_key, counter, flags, key);
+    step(what, deliver(&bus_12, &letter, &back), SHE_NO_ERROR);
+    note("the board's receipt, M4 and M5, is what the foreman expects", is_proved(&back, uid_12, target, authority, counter, key));
+}
+
+/* A letter that must be refused, and nothing may change by it: neither the board nor the paper for the receipt. */
+static void turned_away(const char *what, const struct letter *letter, enum she_answer wanted)
+{
+    struct she_device before = bus_12;
+    struct receipt back, blank;
+    memset(&back, 0xaa, sizeof back);
+    memset(&blank, 0xaa, sizeof blank);
+    step(what, deliver(&bus_12, letter, &back), wanted);
+    note("board and receipt are as they were",
+         memcmp(&bus_12, &before, SHE_DEVICE_BYTES) == 0 && memcmp(&back, &blank, sizeof back) == 0);
+}
+
+/* ---- the day */
+
+static void boards_are_made(void)
+{
+    uint8_t status = 0xff;
+    hour("07:00", "Two boards come from the bench, without any key but their own.");
+    step("bus 12: make a board", she_make(&bus_12, WHOLE(uid_12), WHOLE(secret_12), WHOLE(seed_12)), SHE_NO_ERROR);
+    step("bus 7: make a board", she_make(&bus_7, WHOLE(uid_7), WHOLE(secret_7), WHOLE(seed_7)), SHE_NO_ERROR);
+    step("bus 12: what is your status?", she_get_status(&bus_12, &status), SHE_NO_ERROR);
+    note("the status is 0", status == 0);
+}
+
+static struct letter master_letter;
+
+static void keys_come_in(void)
+{
+    struct receipt back;
+    hour("07:30", "The foreman's letters: a master key first, and under it the keys for doors and brakes.");
+    write_letter(&master_letter, uid_12, SHE_MASTER_ECU_KEY, SHE_MASTER_ECU_KEY, empty_key, 1, 0, master);
+    bytes("M1", WHOLE(master_letter.m1));
+    bytes("M2", WHOLE(master_letter.m2));
+    bytes("M3", WHOLE(master_letter.m3));
+    step("bus 12: take the master key", deliver(&bus_12, &master_letter, &back), SHE_NO_ERROR);
+    bytes("M4", WHOLE(back.m4));
+    bytes("M5", WHOLE(back.m5));
+    note("the board's receipt, M4 and M5, is what the foreman expects",
+         is_proved(&back, uid_12, SHE_MASTER_ECU_KEY, SHE_MASTER_ECU_KEY, 1, master));
+    bring("bus 12: take the door key, for signing", DOOR_SLOT, SHE_MASTER_ECU_KEY, master, 1, SHE_KEY_USAGE, door);
+    bring("bus 12: take the brake key, locked while a debugger looks", BRAKE_SLOT, SHE_MASTER_ECU_KEY, master, 1,
+          SHE_KEY_USAGE + SHE_DEBUGGER, brake);
+}
+
+static void doors_are_opened(void)
+{
+    uint8_t message[16] = "open door 2 @14", mac[16], verdict;
+    hour("09:00", "The bus leaves. Its doors believe only what is signed.");
+    step("sign 'open door 2 @14' with the door key",
+         she_generate_mac(&bus_12, DOOR_SLOT, 8 * sizeof message, WHOLE(message), WHOLE(mac)), SHE_NO_ERROR);
+    bytes("MAC", WHOLE(mac));
+    step("is that the door key's MAC?",
+         she_verify_mac(&bus_12, DOOR_SLOT, 8 * sizeof message, WHOLE(message), WHOLE(mac), 0, &verdict), SHE_NO_ERROR);
+    note("verdict: yes", verdict == 1);
+    message[10] = '1';
+    step("and of 'open door 1 @14'?",
+         she_verify_mac(&bus_12, DOOR_SLOT, 8 * sizeof message, WHOLE(message), WHOLE(mac), 0, &verdict), SHE_NO_ERROR);
+    note("verdict: no", verdict == 0);
+    step("encipher with the door key, which is for signing only",
+         she_enc_ecb(&bus_12, DOOR_SLOT, WHOLE(message), WHOLE(mac)), SHE_KEY_INVALID);
+}
+
+static void wrong_letters(void)
+{
+    struct letter letter, untouched;
+    hour("11:00", "A slip of the pen: a key for slot 0x11. The old device read that as slot 1, the master key.");
+    memset(&letter, 0x55, sizeof letter);
+    memset(&untouched, 0x55, sizeof untouched);
+    step("the writer: a letter for slot 0x11 by 0x11",
+         write_letter(&letter, uid_12, 0x11, 0x11, master, 2, 0, new_master), SHE_KEY_INVALID);
+    note("nothing was written", memcmp(&letter, &untouched, sizeof letter) == 0);
+    step("sign with slot 0x104, which is not slot 4",
+         she_generate_mac(&bus_12, 0x104, 128, WHOLE(letter.m1), WHOLE(letter.m3)), SHE_KEY_INVALID);
+
+    hour("11:30", "Letters that should not work.");
+    turned_away("the morning's master letter, once more", &master_letter, SHE_KEY_UPDATE_ERROR);
+    write_letter(&letter, uid_7, SHE_MASTER_ECU_KEY, SHE_MASTER_ECU_KEY, master, 2, 0, new_master);
+    turned_away("a letter for bus 7, at bus 12", &letter, SHE_KEY_UPDATE_ERROR);
+    write_letter(&letter, uid_12, SHE_MASTER_ECU_KEY, SHE_MASTER_ECU_KEY, master, 2, 0, new_master);
+    letter.m2[20] ^= 1;
+    turned_away("a good letter with one bit changed on the way", &letter, SHE_KEY_UPDATE_ERROR);
+    letter.m2[20] ^= 1;
+    letter.m1[15] = 0x15;
+    turned_away("a good letter, readdressed to a pair that is not allowed", &letter, SHE_KEY_INVALID);
+}
+
+static void one_letter_for_all(void)
+{
+    struct letter letter;
+    struct receipt back;
+    hour("13:00", "One letter for the whole fleet: the horn's key.");
+    step("the fleet sheet",
+         she_fleet_sheet(HORN_SLOT, HORN_SLOT, WHOLE(empty_key), 1, WHOLE(horn), WHOLE(letter.m1), WHOLE(letter.m2), WHOLE(letter.m3)),
+         SHE_NO_ERROR);
+    step("bus 12 takes it", deliver(&bus_12, &letter, &back), SHE_NO_ERROR);
+    note("and signs for bus 12", is_proved(&back, uid_12, HORN_SLOT, HORN_SLOT, 1, horn));
+    step("bus 7 takes it", deliver(&bus_7, &letter, &back), SHE_NO_ERROR);
+    note("and signs for bus 7", is_proved(&back, uid_7, HORN_SLOT, HORN_SLOT, 1, horn));
+}
+
+static void random_numbers(void)
+{
+    uint8_t first[16], second[16];
+    hour("14:00", "Dice.");
+    step("a random number, before they are started", she_rnd(&bus_12, WHOLE(first)), SHE_RNG_SEED);
+    step("start the random numbers", she_init_rng(&bus_12), SHE_NO_ERROR);
+    step("start them again", she_init_rng(&bus_12), SHE_SEQUENCE_ERROR);
+    step("a random number", she_rnd(&bus_12, WHOLE(first)), SHE_NO_ERROR);
+    step("and another", she_rnd(&bus_12, WHOLE(second)), SHE_NO_ERROR);
+    note("they differ", memcmp(first, second, sizeof first) != 0);
+}
+
+static void debugger_looks(void)
+{
+    uint8_t message[16] = "brake gently now", mac[16];
+    hour("15:00", "An apprentice plugs in a debugger.");
+    step("sign with the brake key, before",
+         she_generate_mac(&bus_12, BRAKE_SLOT, 8 * sizeof message, WHOLE(message), WHOLE(mac)), SHE_NO_ERROR);
+    step("a debugger is attached", she_attach_debugger(&bus_12), SHE_NO_ERROR);
+    step("sign with the brake key",
+         she_generate_mac(&bus_12, BRAKE_SLOT, 8 * sizeof message, WHOLE(message), WHOLE(mac)), SHE_KEY_NOT_AVAILABLE);
+}
+
+static void power_cycle(void)
+{
+    uint8_t text[16] = "a guest's ticket", cipher[16], plain[16], status = 0xff;
+    struct letter letter;
+    struct receipt back;
+    hour("17:00", "A key for today only, put aside, and the power goes.");
+    step("load a plain key", she_load_plain_key(&bus_12, WHOLE(guest)), SHE_NO_ERROR);
+    step("encipher with it", she_enc_ecb(&bus_12, SHE_RAM_KEY, WHOLE(text), WHOLE(cipher)), SHE_NO_ERROR);
+    step("export it, sealed",
+         she_export_ram_key(&bus_12, WHOLE(letter.m1), WHOLE(letter.m2), WHOLE(letter.m3), WHOLE(back.m4), WHOLE(back.m5)),
+         SHE_NO_ERROR);
+    step("power off and on", she_reset(&bus_12), SHE_NO_ERROR);
+    step("what is your status?", she_get_status(&bus_12, &status), SHE_NO_ERROR);
+    note("the status is 0: no debugger, no random numbers", status == 0);
+    step("decipher with today's key", she_dec_ecb(&bus_12, SHE_RAM_KEY, WHOLE(cipher), WHOLE(plain)), SHE_KEY_EMPTY);
+    step("load it again from the sealed letter", deliver(&bus_12, &letter, &back), SHE_NO_ERROR);
+    step("decipher with today's key", she_dec_ecb(&bus_12, SHE_RAM_KEY, WHOLE(cipher), WHOLE(plain)), SHE_NO_ERROR);
+    note("the text is back", memcmp(text, plain, sizeof text) == 0);
+    step("sign with the brake key again",
+         she_generate_mac(&bus_12, BRAKE_SLOT, 8 * sizeof text, WHOLE(text), WHOLE(plain)), SHE_NO_ERROR);
+}
+
+int main(void)
+{
+    printf("A day in the yard. Each line: what was asked, the answer's number, and what it means.\n");
+    boards_are_made();
+    keys_come_in();
+    doors_are_opened();
+    wrong_letters();
+    one_letter_for_all();
+    random_numbers();
+    debugger_looks();
+    power_cycle();
+    printf("\nThe day is over; %d things were not as they should be.\n", surprises);
+    return surprises == 0 ? 0 : 1;
+}

@@ -1,0 +1,22 @@
+#!/bin/sh
+# build-c.sh: builds what the tests of the C side run, into target/native/: the library for this machine (proved first), the demo, the
+# second program, its comparison with OpenSSL, and the comparison of both through include/she.h, also with gcc's checkers in it.
+set -eu
+cd "$(dirname "$0")/.."
+out=target/native
+sh tests/native-archive.sh board
+warnings="-Wall -Wextra -Wpedantic -Werror"
+checkers="-g -O1 -fsanitize=address,undefined -fno-sanitize-recover=all"
+rustc --edition 2021 -O -C panic=abort --crate-type staticlib -D warnings tests/second/lib.rs -o "$out/libsecond.a"
+rustc --edition 2021 -O -D warnings tests/second/openssl.rs -o "$out/openssl"
+compile() { # PROGRAM FLAGS SOURCE.. : every word of the flags by itself
+    program=$1 flags=$2
+    shift 2
+    # shellcheck disable=SC2086
+    gcc -std=c99 $warnings $flags -Iinclude "$@" "$out/libboard.a" "$out/libsecond.a" -lpthread -ldl -lm -o "$out/$program"
+}
+compile yard -O2 demo/yard.c
+compile yard-checked "$checkers" demo/yard.c
+compile together -O2 tests/together/*.c
+compile together-checked "$checkers" tests/together/*.c
+echo "the library, the demo, the second program and the comparison are built"

@@ -1,0 +1,93 @@
+#!/bin/sh
+# c.sh: the library as C has it. Everything that is built by build-c.sh is run; what each run says goes to target/native/*.log, and its
+# last line is printed here. The last line is 'C: N passed, M failed', and the status is 0 only where M is 0.
+set -u
+cd "$(dirname "$0")/.." || exit 2
+out=target/native
+mkdir -p "$out"
+passed=0 failed=0
+
+run() { # NAME COMMAND..: passes where the status is 0
+    name=$1
+    shift
+    if "$@" >"$out/$name.log" 2>&1; then
+        passed=$((passed + 1))
+        echo "C: $name: $(tail -n 1 "$out/$name.log")"
+    else
+        failed=$((failed + 1))
+        echo "C: FAILED: $name"
+        tail -n 30 "$out/$name.log"
+    fi
+}
+
+# The header alone, in every language that may include it.
+header() {
+    for language in c99 c11 c17; do
+        echo '#include "she.h"' | gcc -std=$language -Wall -Wextra -Wpedantic -Werror -Iinclude -x c -fsyntax-only - || return 1
+    done
+    for language in c++98 c++11 c++17; do
+        echo '#include "she.h"' | g++ -std=$language -Wall -Wextra -Wpedantic -Werror -Iinclude -x c++ -fsyntax-only - || return 1
+    done
+    echo "she.h compiles as C99, C11, C17, C++98, C++11 and C++17"
+}
+
+# The library asks for nothing of the program that it is linked into, but what every compiler may ask for.
+symbols() { # ARCHIVE
+    nm -u "$1" | sed -n 's/^ *U //p' | sort -u >"$out/undefined"
+    if grep -v -x -e memcpy -e memset -e memmove -e memcmp -e bcmp "$out/undefined"; then
+        return 1
+    fi
+    echo "undefined symbols: $(tr '\n' ' ' <"$out/undefined")"
+}
+
+# The README's example is a whole program, and does what it says.
+readme() {
+    sed -n '/^```c$/,/^```$/p' README.md | grep -v '^```' >"$out/readme.c"
+    gcc -std=c99 -Wall -Wextra -Wpedantic -Werror -Iinclude "$out/readme.c" "$out/libboard.a" -o "$out/readme" && "$out/readme"
+}
+
+demo() { # PROGRAM: it writes what it should, line by line
+    "$@" >"$out/yard.out" && cmp "$out/yard.out" demo/yard.txt && tail -n 1 "$out/yard.out"
+}
+
+# What the kit writes for firmware is an archive for x86-64. Elsewhere the demo is linked with that one too, by the kit's own linker,
+# and run under its emulator.
+shipped() {
+    machine=$(uname -m)
+    if [ "$machine" = x86_64 ]; then
+        echo "this machine is x86-64, so that all here is linked with what the kit writes"
+        return 0
+    fi
+    command -v clang >/dev/null || { echo "no clang to compile the demo for x86-64: not tried"; return 0; }
+    tools=$(dirname "$(dirname "$(rt doc)")")/on/$machine/toolchain
+    lib=$tools/lib
+    rt staticlib board || return 1
+    symbols target/staticlib/libboard.a || return 1
+    clang --target=x86_64-linux-gnu -std=c99 -O2 -Iinclude -isystem "/usr/include/$machine-linux-gnu" -c demo/yard.c \
+        -o "$out/yard-x86-64.o" || return 1
+    "$tools/bin/ld.lld" -pie --dynamic-linker /lib64/ld-linux-x86-64.so.2 -o "$out/yard-x86-64" "$lib/Scrt1.o" "$lib/crti.o" \
+        "$lib/crtbeginS.o" "$out/yard-x86-64.o" target/staticlib/libboard.a "$lib/libc.so.6" "$lib/libc_nonshared.a" \
+        "$lib/libgcc.a" "$lib/crtendS.o" "$lib/crtn.o" || return 1
+    demo "$tools/bin/qemu-x86_64" "$lib/ld-linux-x86-64.so.2" --library-path "$lib" "$out/yard-x86-64"
+}
+
+memory="valgrind --quiet --error-exitcode=9 --leak-check=full"
+
+run build sh tests/build-c.sh
+run header header
+run symbols symbols "$out/libboard.a"
+run readme readme
+run demo demo "$out/yard"
+run demo-checked demo "$out/yard-checked"
+run demo-valgrind demo $memory "$out/yard"
+run demo-shipped shipped
+run openssl "$out/openssl" 1
+run vectors "$out/together" vectors
+run sweeps "$out/together" sweeps 1
+run sequences "$out/together" 1 20000
+run sequences-checked "$out/together-checked" --exact --some 2 3000
+run sweeps-checked "$out/together-checked" sweeps 2
+run vectors-valgrind $memory "$out/together" --exact vectors
+run sequences-valgrind $memory "$out/together" --exact --some 3 1500
+echo "C: $passed passed, $failed failed"
+[ "$failed" -eq 0 ]

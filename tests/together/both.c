@@ -1,0 +1,213 @@
+/* Calling both and comparing what they leave. */
+#include "together.h"
+
+#include <inttypes.h>
+#include <stdio.h>
+#include <stdlib.h>
+#include <string.h>
+
+int lend_exactly = 0;
+
+/* ---- a call before it is made */
+
+static uint8_t storage[MAX_BUFFERS][LARGEST];
+static uint8_t stored_byte;
+
+static void point_into_storage(struct call *c) {
+    c->piece[THE_RECORD] = (struct piece){(uint8_t *)&c->device, sizeof c->device};
+    c->piece[THE_BYTE] = (struct piece){&stored_byte, 1};
+    for (size_t i = 0; i < MAX_BUFFERS; i++) c->piece[BUFFERS + i] = (struct piece){storage[i], c->function->buffers[i].length};
+}
+
+void blank_call(struct call *c, const struct function *f) {
+    memset(c, 0, sizeof *c);
+    c->function = f;
+    point_into_storage(c);
+}
+
+void set_length(struct call *c, size_t buffer, size_t length) { c->piece[BUFFERS + buffer].length = length; }
+
+static size_t piece_count(const struct call *c) { return BUFFERS + buffer_count(c->function); }
+
+static const char *piece_name(const struct call *c, size_t piece) {
+    if (piece == THE_RECORD) return "the device";
+    if (piece == THE_BYTE) return "the verdict or status";
+    return c->function->buffers[piece - BUFFERS].name;
+}
+
+/* ---- lending: the pieces lie in one arena with guard bytes between them, or each in memory of its very length */
+
+enum { GUARD = 24, ARENA = sizeof(struct she_device) + 1 + 2 * LARGEST + 4 * 64 + (PIECES + 1) * (GUARD + 8) };
+
+struct side {
+    const char *name;
+    uint8_t *arena;
+    struct lent lent;
+};
+
+static struct side sides[2] = {{"first", NULL, {{{0}}, {0}}}, {"second", NULL, {{{0}}, {0}}}};
+
+static uint8_t guard_byte(size_t at) { return (uint8_t)(0xC5 ^ at * 29); }
+
+static void *must(void *memory) {
+    if (memory) return memory;
+    fputs("out of memory\n", stderr);
+    exit(2);
+}
+
+/* No byte more than asked for, and for none still a pointer. */
+static uint8_t *exact_memory(size_t length) {
+    void *memory = malloc(length);
+    return memory || length ? must(memory) : must(malloc(1));
+}
+
+/* The first guard ends where the record begins, at a multiple of 8. */
+static void lend_from_arena(struct side *s, const struct call *c) {
+    size_t at = GUARD;
+    if (!s->arena) s->arena = must(malloc(ARENA));
+    for (size_t g = 0; g < GUARD; g++) s->arena[g] = guard_byte(g);
+    for (size_t i = 0; i < piece_count(c); i++) {
+        s->lent.piece[i].bytes = s->arena + at;
+        at += c->piece[i].length;
+        if (at + GUARD > ARENA) must(NULL);
+        for (size_t g = 0; g < GUARD; g++, at++) s->arena[at] = guard_byte(at);
+    }
+}
+
+static void lend(struct side *s, const struct call *c) {
+    if (!lend_exactly) lend_from_arena(s, c);
+    for (size_t i = 0; i < piece_count(c); i++) {
+        struct piece *p = &s->lent.piece[i];
+        p->length = c->piece[i].length;
+        if (lend_exactly) p->bytes = exact_memory(p->length);
+        memcpy(p->bytes, c->piece[i].bytes, p->length);
+    }
+    memcpy(s->lent.number, c->number, sizeof c->number);
+}
+
+static void take_back(struct side *s, const struct call *c) {
+    if (!lend_exactly) return;
+    for (size_t i = 0; i < piece_count(c); i++) free(s->lent.piece[i].bytes);
+}
+
+/* ---- telling of a difference */
+
+static void print_hex(const uint8_t *bytes, size_t length) {
+    enum { SHOWN = 400 };
+    for (size_t i = 0; i < length && i < SHOWN; i++) printf("%02x", bytes[i]);
+    if (length > SHOWN) printf("...");
+    printf(" (%zu bytes)\n", length);
+}
+
+static void print_call(const struct call *c) {
+    printf("%s\n", c->function->name);
+    for (size_t i = 0; c->function->numbers[i] != NO_NUMBER; i++)
+        printf("  %s = %" PRIu64 " (0x%" PRIx64 ")\n", number_name(c->function->numbers[i]), c->number[i], c->number[i]);
+    for (size_t i = 0; i < piece_count(c); i++) {
+        printf("  %s before: ", piece_name(c, i));
+        print_hex(c->piece[i].bytes, c->piece[i].length);
+    }
+}
+
+static void print_after(const struct call *c) {
+    for (size_t s = 0; s < 2; s++)
+        for (size_t i = 0; i < piece_count(c); i++) {
+            printf("  %s after, by the %s: ", piece_name(c, i), sides[s].name);
+            print_hex(sides[s].lent.piece[i].bytes, sides[s].lent.piece[i].length);
+        }
+}
+
+struct verdict {
+    const struct call *call;
+    const char *where;
+    uint8_t answer[2];
+};
+
+static void fail(const struct verdict *v, const char *what) {
+    printf("DIFFERENCE: %s\n%s\n", v->where, what);
+    printf("answers: first %u, second %u\n", v->answer[0], v->answer[1]);
+    print_call(v->call);
+    print_after(v->call);
+    exit(1);
+}
+
+static void fail_at(const struct verdict *v, const char *what, size_t piece, size_t at) {
+    char text[128];
+    snprintf(text, sizeof text, "%s: %s, byte %zu", what, piece_name(v->call, piece), at);
+    fail(v, text);
+}
+
+/* ---- comparing */
+
+/* Where two texts differ first, or their length. */
+static size_t agreement(const uint8_t *a, const uint8_t *b, size_t length) {
+    size_t i = 0;
+    if (!memcmp(a, b, length)) return length;
+    while (a[i] == b[i]) i++;
+    return i;
+}
+
+/* The last three bytes of a record mean nothing. */
+static size_t meant(const struct call *c, size_t piece) { return piece == THE_RECORD ? (size_t)MEANT : c->piece[piece].length; }
+
+static void compare_sides(const struct verdict *v) {
+    if (v->answer[0] != v->answer[1]) fail(v, "the answers differ");
+    for (size_t i = 0; i < piece_count(v->call); i++) {
+        size_t length = meant(v->call, i);
+        size_t at = agreement(sides[0].lent.piece[i].bytes, sides[1].lent.piece[i].bytes, length);
+        if (at < length) fail_at(v, "the two leave something else", i, at);
+    }
+}
+
+static void compare_guards(const struct verdict *v, const struct side *s) {
+    size_t at = 0;
+    for (size_t i = 0; i <= piece_count(v->call); i++) {
+        for (size_t g = 0; g < GUARD; g++, at++)
+            if (s->arena[at] != guard_byte(at)) fail_at(v, "a byte was written beyond", i ? i - 1 : i, g);
+        if (i < piece_count(v->call)) at += v->call->piece[i].length;
+    }
+}
+
+/* What must be as it was: all after a refusal, and otherwise what is only read. */
+static int must_stay(const struct call *c, size_t piece, uint8_t answer) {
+    if (piece == THE_BYTE) return !c->function->has_byte;
+    if (piece == THE_RECORD) return answer != SHE_NO_ERROR;
+    return answer != SHE_NO_ERROR || !c->function->buffers[piece - BUFFERS].is_written;
+}
+
+static void compare_with_before(const struct verdict *v, const struct side *s, uint8_t answer) {
+    for (size_t i = 0; i < piece_count(v->call); i++) {
+        size_t length = meant(v->call, i);
+        size_t at = agreement(s->lent.piece[i].bytes, v->call->piece[i].bytes, length);
+        if (must_stay(v->call, i, answer) && at < length) fail_at(v, "something changed that must not", i, at);
+    }
+    if (v->call->function->has_byte && answer != SHE_NO_ERROR && *s->lent.piece[THE_BYTE].bytes)
+        fail(v, "the verdict or status beside a refusal isn't 0");
+}
+
+static void compare(const struct verdict *v) {
+    compare_sides(v);
+    for (size_t s = 0; s < 2; s++) {
+        if (v->answer[s] > SHE_GENERAL_ERROR) fail(v, "an answer above 12");
+        if (!(v->call->function->answers >> v->answer[s] & 1)) fail(v, "an answer that it cannot give");
+        if (!lend_exactly) compare_guards(v, &sides[s]);
+        compare_with_before(v, &sides[s], v->answer[s]);
+    }
+}
+
+static void keep_outcome(struct call *c) {
+    for (size_t i = 0; i < piece_count(c); i++) memcpy(c->piece[i].bytes, sides[0].lent.piece[i].bytes, meant(c, i));
+}
+
+uint8_t call_both(struct call *c, const char *where) {
+    struct verdict v = {c, where, {0, 0}};
+    lend(&sides[0], c);
+    lend(&sides[1], c);
+    v.answer[0] = c->function->first(&sides[0].lent);
+    v.answer[1] = c->function->second(&sides[1].lent);
+    compare(&v);
+    keep_outcome(c);
+    take_back(&sides[0], c);
+    take_back(&sides[1], c);
+    return v.answer[0];
+}

@@ -1,0 +1,511 @@
+/* Random sequences. The record is plain data, so that what is drawn may look into it: half of the work here is to find the keys,
+ * counters and identities with which a message would be accepted, and the other half is to spoil one thing or another. */
+#include "together.h"
+
+#include <string.h>
+
+/* The tools for building messages are the second's; vectors.c holds both to the published ones. */
+extern __typeof__(she_kdf) second_kdf;
+extern __typeof__(she_cbc_encrypt) second_cbc_encrypt;
+extern __typeof__(she_cmac) second_cmac;
+
+#define LENGTH(array) (sizeof(array) / sizeof *(array))
+
+/* ---- random numbers: xoshiro256**, seeded through splitmix64 */
+
+static uint64_t random_state[4];
+
+static uint64_t splitmix(uint64_t *x) {
+    uint64_t z = *x += 0x9E3779B97F4A7C15u;
+    z = (z ^ z >> 30) * 0xBF58476D1CE4E5B9u;
+    z = (z ^ z >> 27) * 0x94D049BB133111EBu;
+    return z ^ z >> 31;
+}
+
+void seed_random(uint64_t seed, uint64_t sequence) {
+    uint64_t x = seed;
+    x = splitmix(&x) ^ sequence;
+    for (size_t i = 0; i < 4; i++) random_state[i] = splitmix(&x);
+}
+
+static uint64_t rotate(uint64_t x, int by) { return x << by | x >> (64 - by); }
+
+static uint64_t draw(void) {
+    uint64_t *s = random_state, drawn = rotate(s[1] * 5, 7) * 9, t = s[1] << 17;
+    s[2] ^= s[0];
+    s[3] ^= s[1];
+    s[1] ^= s[2];
+    s[0] ^= s[3];
+    s[2] ^= t;
+    s[3] = rotate(s[3], 45);
+    return drawn;
+}
+
+/* No expression may draw twice in an order that C leaves open: the same seed must give the same run everywhere. */
+static uint64_t below(uint64_t n) { return draw() % n; }
+static int one_in(uint64_t n) { return below(n) == 0; }
+
+static void fill(uint8_t *bytes, size_t length) {
+    for (size_t i = 0; i < length; i += 8) {
+        uint64_t drawn = draw();
+        for (size_t k = i; k < length && k < i + 8; k++, drawn >>= 8) bytes[k] = (uint8_t)drawn;
+    }
+}
+
+static void flip_bit(uint8_t *bytes, size_t bit) { bytes[bit / 8] ^= (uint8_t)(0x80 >> bit % 8); }
+static void flip_any_bit(uint8_t *bytes, size_t length) { flip_bit(bytes, below(8 * length)); }
+
+#define ONE_OF(array) (array)[below(LENGTH(array))]
+
+/* ---- numbers: mostly such as have a meaning, now and then too wide for their place */
+
+static uint64_t draw_wide_slot(void) {
+    static const uint64_t wide[] = {0x104, 0x111, 0x10E, 256, 255, 0xFFFFFFFF, 0x10004, 0x80000005, 0x0F, 0x11, 0x1E, 0x41};
+    return one_in(4) ? 256 + (below(0xFFFFFF00) & 0xFFFFFF0F) : ONE_OF(wide);
+}
+
+static uint64_t draw_filled_slot(const struct she_device *d) {
+    uint64_t slot = 2 + below(13);
+    for (unsigned tries = 0; tries < 13 && (d->empty[slot] || slot == SHE_BOOT_MAC); tries++) slot = slot == 14 ? 2 : slot + 1;
+    return slot;
+}
+
+static uint64_t draw_slot(const struct she_device *d) {
+    uint64_t kind = below(16);
+    if (kind < 9) return draw_filled_slot(d);
+    if (kind < 12) return SHE_KEY_1 + below(11);
+    if (kind < 14) return below(16);
+    return kind == 14 ? below(256) : draw_wide_slot();
+}
+
+static uint64_t draw_long_bits(void) {
+    static const uint64_t ends[] = {SHE_MAX_BITS, SHE_MAX_BITS, SHE_MAX_BITS + 1, SHE_MAX_BITS - 1, SHE_MAX_BITS - 127};
+    return one_in(3) ? below(SHE_MAX_BITS) : ONE_OF(ends);
+}
+
+static uint64_t draw_bits(void) {
+    static const uint64_t wide[] = {0x100000008, UINT64_MAX, UINT64_MAX - 7, UINT64_MAX - 127, 0x100000000, 0x8000000000000000,
+                                    0x100080000};
+    if (one_in(50)) return draw_long_bits();
+    if (one_in(30)) return one_in(3) ? (uint64_t)1 << (32 + below(32)) | 200 : ONE_OF(wide);
+    if (one_in(6)) return 128 * below(5);
+    if (one_in(6)) return 128 * below(5) + 1;
+    if (one_in(6)) return 128 * below(5) + 127;
+    return below(601);
+}
+
+static uint64_t draw_mac_bits(void) {
+    static const uint64_t wide[] = {128, 129, 255, 256, 0x17F, 0x80000000, 0xFFFFFFFF};
+    if (one_in(16)) return one_in(2) ? 0x100 + below(128) : ONE_OF(wide);
+    return one_in(5) ? 0 : below(131);
+}
+
+static uint64_t draw_wide_counter(void) {
+    static const uint64_t wide[] = {SHE_MAX_COUNTER, 0x10000000, 0x10000001, 0x100000001, 0x100000000, UINT64_MAX,
+                                    0x8000000000000000};
+    return ONE_OF(wide);
+}
+
+static uint64_t draw_wide_flags(void) {
+    static const uint64_t wide[] = {32, 0x103, 0xFFFFFFFF, 64, 128, 255, 0x80000000};
+    return one_in(3) ? 0x100 + below(32) : ONE_OF(wide);
+}
+
+/* ---- records */
+
+static uint8_t flags_of(size_t slot) {
+    if (slot == SHE_MASTER_ECU_KEY) return SHE_ALL_FLAGS - SHE_KEY_USAGE;
+    if (slot == SHE_BOOT_MAC_KEY || slot == SHE_BOOT_MAC) return SHE_WRITE | SHE_DEBUGGER | SHE_WILDCARD;
+    return slot >= SHE_KEY_1 && slot <= SHE_KEY_10 ? SHE_ALL_FLAGS : 0;
+}
+
+/* WRITE ends all that can happen to a slot, so it is drawn less often. */
+static uint8_t draw_flags(void) {
+    uint8_t flags = (uint8_t)below(32);
+    if (one_in(3)) return 0;
+    return one_in(6) ? flags : flags & (uint8_t)~SHE_WRITE;
+}
+
+static uint32_t draw_stored_counter(void) {
+    static const uint32_t ends[] = {0, 1, 2, 5, SHE_MAX_COUNTER, SHE_MAX_COUNTER - 1, SHE_MAX_COUNTER - 3};
+    return one_in(3) ? (uint32_t)below(SHE_MAX_COUNTER) : ONE_OF(ends);
+}
+
+void make_record(struct she_device *d) {
+    memset(d, 0, sizeof *d);
+    memset(d->empty + 1, 1, SHE_SLOTS - 1);
+    fill(d->keys, 16);
+    fill(d->uid, sizeof d->uid);
+    fill(d->seed, sizeof d->seed);
+    d->uid[below(SHE_UID)] |= 1;
+    d->made = 1;
+}
+
+static void fill_slot(struct she_device *d, size_t slot) {
+    d->empty[slot] = 0;
+    fill(d->keys + 16 * slot, 16);
+    if (slot == SHE_RAM_KEY) {
+        d->plain = (uint8_t)below(2);
+        return;
+    }
+    d->counters[slot] = draw_stored_counter();
+    d->flags[slot] = draw_flags() & flags_of(slot);
+}
+
+/* A record that many loads may have left. */
+void rich_record(struct she_device *d) {
+    make_record(d);
+    for (size_t slot = 1; slot < SHE_SLOTS; slot++)
+        if (below(10) < 7) fill_slot(d, slot);
+    d->debugger = (uint8_t)below(2);
+    d->rng = (uint8_t)below(2);
+    if (!d->rng) return;
+    fill(d->state, sizeof d->state);
+    fill(d->rngkey, sizeof d->rngkey);
+}
+
+/* A byte that is no mark, or the other mark. */
+static uint8_t spoiled_mark(uint8_t mark) {
+    static const uint8_t none[] = {2, 3, 128, 254, 255};
+    return one_in(3) ? (uint8_t)!mark : ONE_OF(none);
+}
+
+static void spoil_record(struct she_device *d) {
+    static const uint32_t counters[] = {1, SHE_MAX_COUNTER, SHE_MAX_COUNTER + 1, 0x80000000, 0xFFFFFFFF};
+    size_t slot = one_in(4) ? 14 * below(2) : below(SHE_SLOTS);
+    switch (below(14)) {
+    case 0: d->made = spoiled_mark(d->made); break;
+    case 1: d->rng = spoiled_mark(d->rng); break;
+    case 2: d->plain = spoiled_mark(d->plain); break;
+    case 3: d->debugger = spoiled_mark(d->debugger); break;
+    case 4: case 5: d->empty[slot] = spoiled_mark(d->empty[slot]); break;
+    case 6: memset(d->uid, 0, sizeof d->uid); break;
+    case 7: d->counters[slot] = ONE_OF(counters); break;
+    case 8: case 9: flip_any_bit(&d->flags[slot], 1); break;
+    case 10: flip_any_bit(d->keys + 16 * slot, 16); break;
+    case 11: flip_any_bit(d->state, 16); break;
+    case 12: flip_any_bit(d->rngkey, 16); break;
+    default: flip_any_bit((uint8_t *)d, MEANT);
+    }
+}
+
+static void spoiled_record(struct she_device *d) {
+    (one_in(3) ? make_record : rich_record)(d);
+    do spoil_record(d);
+    while (one_in(4));
+}
+
+static int is_short, is_make_next;
+
+/* Making comes as the first call, to a record that may have held anything. */
+static void draw_record(struct she_device *d) {
+    uint64_t kind = below(100);
+    is_make_next = kind < 37;
+    is_short = kind >= 74;
+    if (kind < 10) fill((uint8_t *)d, MEANT);
+    else if (kind < 27) memset(d, 0, sizeof *d);
+    else if (kind < 74) rich_record(d);
+    else if (kind < 96) spoiled_record(d);
+    else if (kind < 98) memset(d, 0, sizeof *d);
+    else fill((uint8_t *)d, MEANT);
+}
+
+/* ---- key messages */
+
+static struct message remembered[16];
+static size_t remembered_count;
+
+static void remember_message(const uint8_t *m1, const uint8_t *m2, const uint8_t *m3) {
+    struct message *m = &remembered[remembered_count++ % LENGTH(remembered)];
+    memcpy(m->m1, m1, sizeof m->m1);
+    memcpy(m->m2, m2, sizeof m->m2);
+    memcpy(m->m3, m3, sizeof m->m3);
+}
+
+/* A few slots are drawn more often, so that the same one is loaded again and again. */
+static uint32_t draw_target(void) {
+    static const uint32_t often[] = {1, 1, 2, 3, 4, 4, 5, 14, 14};
+    return one_in(3) ? 1 + (uint32_t)below(14) : ONE_OF(often);
+}
+
+static uint32_t draw_authority(uint32_t target) {
+    if (target == SHE_RAM_KEY) return one_in(2) ? 0 : SHE_KEY_1 + (uint32_t)below(10);
+    if (target == SHE_BOOT_MAC) return 1 + (uint32_t)below(2);
+    return one_in(2) ? SHE_MASTER_ECU_KEY : target;
+}
+
+static void plan_pair(struct plan *p, const struct she_device *d) {
+    for (unsigned tries = 0; tries < 2; tries++) {
+        p->target = draw_target();
+        p->authority = draw_authority(p->target);
+        if (p->authority == p->target || !d->empty[p->authority]) break;
+    }
+    if (!one_in(14)) return;
+    p->target = (uint32_t)below(16);
+    p->authority = (uint32_t)below(16);
+}
+
+static void plan_identity(struct plan *p, const struct she_device *d) {
+    uint64_t kind = below(20);
+    memcpy(p->uid, d->uid, SHE_UID);
+    if (kind < 5) memset(p->uid, 0, SHE_UID);
+    if (kind == 5) flip_any_bit(p->uid, SHE_UID);
+    if (kind == 6) fill(p->uid, SHE_UID);
+    if (memcmp(p->uid, d->uid, SHE_UID) && kind >= 5) p->marks |= OTHER_BOARD;
+    if (kind < 5 && p->target < SHE_SLOTS && d->flags[p->target] & SHE_WILDCARD) p->marks |= FORBIDDEN_WILDCARD;
+}
+
+/* The key that counts is FF all over for an empty slot. The wrong ones include what lies in such a slot, zeros. */
+static void plan_key(struct plan *p, const struct she_device *d) {
+    size_t slot = p->authority < SHE_SLOTS ? p->authority : 0;
+    uint8_t right[16];
+    memcpy(right, d->keys + 16 * slot, 16);
+    if (d->empty[slot]) memset(right, 0xFF, 16);
+    memcpy(p->key, right, 16);
+    if (one_in(20)) memset(p->key, one_in(2) ? 0xFF : 0, 16);
+    if (one_in(40)) fill(p->key, 16);
+    if (memcmp(p->key, right, 16)) p->marks |= FORGED;
+}
+
+static uint32_t draw_counter(uint32_t stored) {
+    switch (below(24)) {
+    case 0: case 1: return stored;
+    case 2: return stored ? stored - 1 : 0;
+    case 3: return (uint32_t)below((uint64_t)stored + 1);
+    case 4: return one_in(3) ? SHE_MAX_COUNTER : 0;
+    case 5: return one_in(3) ? (uint32_t)below(SHE_MAX_COUNTER) : 1;
+    case 6: return stored ^ (1u << below(28)); /* far above or far below */
+    case 7: case 8: return stored + 1 + (uint32_t)below(300);
+    default: return stored + 1;
+    }
+}
+
+static void plan_first_block(struct plan *p, const struct she_device *d) {
+    uint32_t stored = p->target < SHE_SLOTS ? d->counters[p->target] & SHE_MAX_COUNTER : 0;
+    p->counter = draw_counter(stored);
+    if (p->counter > SHE_MAX_COUNTER) p->counter = SHE_MAX_COUNTER;
+    if (p->target != SHE_RAM_KEY && p->counter <= stored) p->marks |= NOT_NEWER;
+    p->flags = draw_flags();
+    if (p->flags & ~flags_of(p->target)) p->marks |= DROPPED_FLAG;
+    memset(p->filler, 0, sizeof p->filler);
+    if (!one_in(14)) return;
+    flip_bit(p->filler, 1 + below(95));
+    p->marks |= FILLED;
+}
+
+void plan_message(struct plan *p, const struct she_device *d) {
+    p->marks = 0;
+    plan_pair(p, d);
+    plan_identity(p, d);
+    plan_key(p, d);
+    plan_first_block(p, d);
+    fill(p->new_key, sizeof p->new_key);
+}
+
+/* The message by hand, since the writers would write neither such pairs nor such fillings. */
+void build_message(const struct plan *p, struct message *m) {
+    static const uint8_t enc_c[16] = {1, 1, 0x53, 0x48, 0x45, 0, 0x80, 0, 0, 0, 0, 0, 0, 0, 0, 0xB0};
+    static const uint8_t mac_c[16] = {1, 2, 0x53, 0x48, 0x45, 0, 0x80, 0, 0, 0, 0, 0, 0, 0, 0, 0xB0};
+    static const uint8_t zeros[16];
+    uint8_t k1[16], k2[16], clear[32], signed_text[48];
+    uint32_t head = p->counter << 4 | p->flags >> 1;
+    memcpy(m->m1, p->uid, SHE_UID);
+    m->m1[15] = (uint8_t)(16 * p->target + p->authority);
+    for (size_t i = 0; i < 4; i++) clear[i] = (uint8_t)(head >> (24 - 8 * i));
+    memcpy(clear + 4, p->filler, 12);
+    clear[4] |= (uint8_t)((p->flags & SHE_WILDCARD) << 7);
+    memcpy(clear + 16, p->new_key, 16);
+    second_kdf(p->key, 16, enc_c, 16, k1, 16);
+    second_kdf(p->key, 16, mac_c, 16, k2, 16);
+    second_cbc_encrypt(k1, 16, zeros, 16, clear, 32, m->m2, 32);
+    memcpy(signed_text, m->m1, 16);
+    memcpy(signed_text + 16, m->m2, 32);
+    second_cmac(k2, 16, 8 * 48, signed_text, 48, m->m3, 16);
+}
+
+static void damage_message(struct message *m) {
+    if (one_in(4)) m->m1[15] = (uint8_t)draw();
+    else flip_any_bit((uint8_t *)m, sizeof *m);
+}
+
+/* ---- lengths and buffers */
+
+static uint8_t *bytes_of(struct call *c, const char *name) {
+    for (size_t i = 0; i < buffer_count(c->function); i++)
+        if (!strcmp(c->function->buffers[i].name, name)) return c->piece[BUFFERS + i].bytes;
+    return NULL;
+}
+
+void put(struct call *c, const char *name, const uint8_t *bytes, size_t length) {
+    uint8_t *to = bytes_of(c, name);
+    if (to) memcpy(to, bytes, length);
+}
+
+static void set_open_lengths(struct call *c, size_t length) {
+    for (size_t i = 0; i < buffer_count(c->function); i++)
+        if (!c->function->buffers[i].length) set_length(c, i, length);
+}
+
+static void fill_buffers(struct call *c) {
+    for (size_t i = 0; i < buffer_count(c->function); i++) fill(c->piece[BUFFERS + i].bytes, c->piece[BUFFERS + i].length);
+}
+
+static uint64_t *number_of(struct call *c, enum number_kind kind) {
+    size_t i = 0;
+    while (c->function->numbers[i] != kind) i++;
+    return &c->number[i];
+}
+
+static void draw_number(struct call *c, size_t i) {
+    switch (c->function->numbers[i]) {
+    case SLOT: c->number[i] = draw_slot(&c->device); break;
+    case BITS: c->number[i] = draw_bits(); break;
+    case MAC_BITS: c->number[i] = draw_mac_bits(); break;
+    default: break; /* those of the writers come from a plan */
+    }
+}
+
+void draw_plain(struct call *c) { fill_buffers(c); }
+
+static size_t draw_cbc_length(void) {
+    static const size_t ends[] = {16 * SHE_MAX_BLOCKS, 16 * (SHE_MAX_BLOCKS + 1), 16 * SHE_MAX_BLOCKS - 1,
+                                  16 * SHE_MAX_BLOCKS + 1};
+    if (one_in(60)) return one_in(3) ? 16 * (1 + below(SHE_MAX_BLOCKS)) : ONE_OF(ends);
+    return one_in(16) ? below(130) : 16 * (1 + below(8));
+}
+
+void draw_cbc(struct call *c) {
+    set_open_lengths(c, draw_cbc_length());
+    fill_buffers(c);
+}
+
+/* Bits beyond all limits come with a message that would fit if their upper part were lost, or if rounding up went around. */
+static size_t message_length(uint64_t bits) {
+    if (bits > SHE_MAX_BITS + 128) bits &= one_in(2) ? 0x3FF : 0;
+    return 16 * (bits ? (bits + 127) / 128 : 1);
+}
+
+void draw_mac(struct call *c) {
+    set_open_lengths(c, message_length(*number_of(c, BITS)));
+    fill_buffers(c);
+}
+
+/* Which of the MAC's bits to spoil: the last compared, the first not compared, or any. */
+static void spoil_mac(struct call *c, uint8_t *mac, uint64_t mac_bits) {
+    uint64_t compared = mac_bits && mac_bits < 128 ? mac_bits : 128;
+    uint64_t bit = one_in(2) ? compared - 1 : one_in(2) ? compared : below(128);
+    if (bit >= 128) return;
+    flip_bit(mac, bit);
+    if (bit >= compared) c->marks |= WRONG_AFTER;
+    if (bit == compared - 1) c->marks |= WRONG_IN_LAST;
+}
+
+void draw_verify(struct call *c) {
+    uint64_t slot = *number_of(c, SLOT), bits = *number_of(c, BITS);
+    const struct piece *message = &c->piece[BUFFERS];
+    uint8_t mac[16];
+    draw_mac(c);
+    if (slot >= SHE_SLOTS || one_in(10)) return;
+    if (second_cmac(c->device.keys + 16 * slot, 16, bits, message->bytes, message->length, mac, 16) != SHE_NO_ERROR) return;
+    if (below(3)) spoil_mac(c, mac, *number_of(c, MAC_BITS));
+    put(c, "mac", mac, sizeof mac);
+}
+
+void draw_make(struct call *c) {
+    uint8_t *uid = bytes_of(c, "uid");
+    fill_buffers(c);
+    if (!one_in(6)) return;
+    memset(uid, 0, SHE_UID);
+    if (one_in(2)) flip_any_bit(uid, SHE_UID);
+}
+
+void draw_writer(struct call *c) {
+    struct plan p;
+    fill_buffers(c);
+    plan_message(&p, &c->device);
+    *number_of(c, TARGET) = one_in(16) ? draw_wide_slot() : p.target;
+    *number_of(c, AUTHORITY) = one_in(16) ? draw_wide_slot() : p.authority;
+    *number_of(c, COUNTER) = one_in(12) ? draw_wide_counter() : p.counter;
+    if (!strcmp(c->function->name, "write_key")) *number_of(c, FLAGS) = one_in(12) ? draw_wide_flags() : p.flags;
+    put(c, "uid", p.uid, sizeof p.uid);
+    put(c, "authority_key", p.key, sizeof p.key);
+    put(c, "new_key", p.new_key, sizeof p.new_key);
+}
+
+void put_message(struct call *c, const struct message *m) {
+    put(c, "m1", m->m1, sizeof m->m1);
+    put(c, "m2", m->m2, sizeof m->m2);
+    put(c, "m3", m->m3, sizeof m->m3);
+}
+
+void draw_load(struct call *c) {
+    struct message m;
+    fill_buffers(c);
+    if (remembered_count && one_in(6)) {
+        m = remembered[below(remembered_count < LENGTH(remembered) ? remembered_count : LENGTH(remembered))];
+        c->marks = REPLAYED;
+    } else {
+        struct plan p;
+        plan_message(&p, &c->device);
+        build_message(&p, &m);
+        c->marks = p.marks;
+    }
+    if (one_in(10)) {
+        damage_message(&m);
+        c->marks |= FORGED;
+    }
+    put_message(c, &m);
+}
+
+/* ---- sequences */
+
+static void spoil_length(struct call *c) {
+    static const size_t others[] = {0, 1, 15, 16, 17, 31, 32, 33, 48, 64};
+    size_t count = buffer_count(c->function), i = count ? below(count) : 0;
+    struct piece *p = &c->piece[BUFFERS + i];
+    size_t was = p->length, now = ONE_OF(others);
+    if (!count) return;
+    if (one_in(2)) now = was && one_in(2) ? was - 1 : was + 1;
+    if (now > LARGEST) return;
+    if (now > was) fill(p->bytes + was, now - was);
+    p->length = now;
+}
+
+static const struct function *draw_function(void) {
+    uint64_t sum = 0, drawn;
+    for (size_t i = 0; i < function_count; i++) sum += functions[i].weight;
+    drawn = below(sum);
+    for (size_t i = 0;; i++) {
+        if (drawn < functions[i].weight) return &functions[i];
+        drawn -= functions[i].weight;
+    }
+}
+
+void begin_sequence(uint64_t seed, uint64_t sequence, struct she_device *device) {
+    seed_random(seed, sequence);
+    remembered_count = 0;
+    memset(device, 0, sizeof *device);
+    draw_record(device);
+}
+
+/* On a record that isn't made nearly all is refused alike, so that less is tried. */
+unsigned draw_call_count(void) { return is_short ? 4 + (unsigned)below(8) : 20 + (unsigned)below(41); }
+
+void prepare_call(struct call *c, const struct function *f, const struct she_device *device, const uint64_t *numbers) {
+    blank_call(c, f);
+    c->device = *device;
+    fill(c->piece[THE_BYTE].bytes, 1);
+    for (size_t i = 0; f->numbers[i] != NO_NUMBER; i++) numbers ? (void)(c->number[i] = numbers[i]) : draw_number(c, i);
+    f->draw(c);
+}
+
+void draw_call(struct call *c, const struct she_device *device) {
+    prepare_call(c, is_make_next ? function_named("make") : draw_function(), device, NULL);
+    if (one_in(14)) spoil_length(c);
+    is_make_next = 0;
+}
+
+void remember(struct call *after, uint8_t answer) {
+    const uint8_t *m1 = bytes_of(after, "m1"), *m2 = bytes_of(after, "m2"), *m3 = bytes_of(after, "m3");
+    if (answer == SHE_NO_ERROR && m1) remember_message(m1, m2, m3);
+}

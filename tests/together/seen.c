@@ -1,0 +1,178 @@
+/* What was seen: how often each function gave each answer, and how often what is hard to come by came. A run in which something
+ * of this is missing has tested less than it says, and fails. */
+#include "together.h"
+
+#include <inttypes.h>
+#include <stdio.h>
+#include <string.h>
+
+enum { ANSWERS = SHE_GENERAL_ERROR + 1, MOST_FUNCTIONS = 64 };
+
+static uint64_t answered[MOST_FUNCTIONS][ANSWERS];
+static uint64_t calls;
+
+#define SIGHTS(X) \
+    X(VERDICT_YES, "VERIFY_MAC: yes") \
+    X(VERDICT_NO, "VERIFY_MAC: no") \
+    X(YES_THOUGH_WRONG_AFTER, "VERIFY_MAC: yes, with a MAC wrong after the bits compared") \
+    X(NO_FOR_LAST_BIT, "VERIFY_MAC: no, for the last bit compared alone") \
+    X(VERIFIED_BY_BOOT_MAC_KEY, "VERIFY_MAC: with BOOT_MAC_KEY") \
+    X(STATUS_0, "GET_STATUS: 0") \
+    X(STATUS_32, "GET_STATUS: 32") \
+    X(STATUS_64, "GET_STATUS: 64") \
+    X(STATUS_96, "GET_STATUS: 96") \
+    X(MARKED_BUT_NOT_MADE, "GET_STATUS: 12, though the made mark is on") \
+    X(ID_WITHOUT_MAC, "GET_ID: without a MASTER_ECU_KEY") \
+    X(EMPTY_MAC, "a MAC of 0 bits") \
+    X(UNEVEN_MAC, "a MAC of bits that fill no byte") \
+    X(LONGEST_MAC, "a MAC of 524,288 bits") \
+    X(TOO_LONG_MAC, "a MAC of 524,289 bits refused") \
+    X(LONGEST_CBC, "CBC of 4,096 blocks") \
+    X(TOO_LONG_CBC, "CBC of 4,097 blocks refused") \
+    X(WIDE_SLOT, "a slot of more than 255 refused as none") \
+    X(LOADED_BY_EMPTY_SELF, "LOAD_KEY: by the target itself, empty") \
+    X(LOADED_BY_FULL_SELF, "LOAD_KEY: by the target itself, not empty") \
+    X(LOADED_BY_WILDCARD, "LOAD_KEY: by wildcard, not RAM_KEY") \
+    X(LOADED_RAM_BY_WILDCARD, "LOAD_KEY: RAM_KEY by wildcard") \
+    X(LOADED_RAM_BY_SECRET, "LOAD_KEY: RAM_KEY by SECRET_KEY") \
+    X(LOADED_RAM_BY_KEY_N, "LOAD_KEY: RAM_KEY by KEY_n") \
+    X(LOADED_RAM_BY_MAC_KEY, "LOAD_KEY: RAM_KEY by a KEY_n with KEY_USAGE") \
+    X(LOADED_OVER_PLAIN, "LOAD_KEY: over a plain RAM_KEY") \
+    X(LOADED_LARGEST, "LOAD_KEY: with the largest counter") \
+    X(LOADED_DROPPING, "LOAD_KEY: with a flag that the slot hasn't") \
+    X(LOADED_LOCKED_TARGET, "LOAD_KEY: into a locked slot") \
+    X(LOADED_AGAIN, "LOAD_KEY: a message written or used before") \
+    X(REFUSED_FORGED, "LOAD_KEY: 7 for a wrong M3 alone") \
+    X(REFUSED_OTHER_BOARD, "LOAD_KEY: 7 for another board's UID' alone") \
+    X(REFUSED_WILDCARD, "LOAD_KEY: 7 for a forbidden wildcard alone") \
+    X(REFUSED_FILLED, "LOAD_KEY: 7 for the 95 bits alone") \
+    X(REFUSED_NOT_NEWER, "LOAD_KEY: 7 for the counter alone") \
+    X(REFUSED_AGAIN, "LOAD_KEY: 7 for a message written or used before")
+
+#define NAME(name, text) name,
+#define TEXT(name, text) text,
+enum sight { SIGHTS(NAME) SIGHT_COUNT };
+static const char *const sight_texts[] = {SIGHTS(TEXT)};
+static uint64_t seen[SIGHT_COUNT];
+
+static void see(enum sight sight, int is_seen) { seen[sight] += is_seen != 0; }
+
+static int is_named(const struct call *c, const char *name) { return !strcmp(c->function->name, name); }
+
+static uint64_t number_of(const struct call *c, enum number_kind kind, uint64_t otherwise) {
+    for (size_t i = 0; c->function->numbers[i] != NO_NUMBER; i++)
+        if (c->function->numbers[i] == kind) return c->number[i];
+    return otherwise;
+}
+
+static void look_at_verify(const struct call *c, uint8_t answer) {
+    uint8_t verdict = *c->piece[THE_BYTE].bytes;
+    if (answer != SHE_NO_ERROR) return;
+    see(VERDICT_YES, verdict == 1);
+    see(VERDICT_NO, verdict == 0);
+    see(YES_THOUGH_WRONG_AFTER, verdict == 1 && c->marks & WRONG_AFTER);
+    see(NO_FOR_LAST_BIT, verdict == 0 && c->marks & WRONG_IN_LAST);
+    see(VERIFIED_BY_BOOT_MAC_KEY, number_of(c, SLOT, 0) == SHE_BOOT_MAC_KEY);
+}
+
+static void look_at_status(const struct call *c, uint8_t answer) {
+    uint8_t status = *c->piece[THE_BYTE].bytes;
+    see(MARKED_BUT_NOT_MADE, answer != SHE_NO_ERROR && c->device.made == 1);
+    if (answer != SHE_NO_ERROR) return;
+    see(STATUS_0, status == 0);
+    see(STATUS_32, status == 32);
+    see(STATUS_64, status == 64);
+    see(STATUS_96, status == 96);
+}
+
+static void look_at_mac(const struct call *c, uint8_t answer) {
+    uint64_t bits = number_of(c, BITS, UINT64_MAX);
+    see(EMPTY_MAC, answer == SHE_NO_ERROR && bits == 0);
+    see(UNEVEN_MAC, answer == SHE_NO_ERROR && bits <= SHE_MAX_BITS && bits % 8);
+    see(LONGEST_MAC, answer == SHE_NO_ERROR && bits == SHE_MAX_BITS);
+    see(TOO_LONG_MAC, answer == SHE_GENERAL_ERROR && bits == SHE_MAX_BITS + 1);
+}
+
+static void look_at_cbc(const struct call *c, uint8_t answer) {
+    const struct piece *in = &c->piece[BUFFERS + 1 + (c->function->numbers[0] == NO_NUMBER)];
+    if (!strstr(c->function->name, "cbc")) return;
+    see(LONGEST_CBC, answer == SHE_NO_ERROR && in->length == 16 * SHE_MAX_BLOCKS);
+    see(TOO_LONG_CBC, answer == SHE_GENERAL_ERROR && in->length == 16 * (SHE_MAX_BLOCKS + 1));
+}
+
+static int is_wildcard(const uint8_t *uid) {
+    static const uint8_t zeros[SHE_UID];
+    return !memcmp(uid, zeros, SHE_UID);
+}
+
+static void look_at_loaded(const struct call *c, const struct she_device *before) {
+    const uint8_t *m1 = c->piece[BUFFERS].bytes;
+    unsigned target = m1[15] / 16, authority = m1[15] % 16;
+    int into_ram = target == SHE_RAM_KEY, by_key_n = authority >= SHE_KEY_1;
+    see(LOADED_BY_EMPTY_SELF, target == authority && before->empty[target]);
+    see(LOADED_BY_FULL_SELF, target == authority && !before->empty[target]);
+    see(LOADED_BY_WILDCARD, !into_ram && is_wildcard(m1));
+    see(LOADED_RAM_BY_WILDCARD, into_ram && is_wildcard(m1));
+    see(LOADED_RAM_BY_SECRET, into_ram && !by_key_n);
+    see(LOADED_RAM_BY_KEY_N, into_ram && by_key_n);
+    see(LOADED_RAM_BY_MAC_KEY, into_ram && before->flags[authority] & SHE_KEY_USAGE);
+    see(LOADED_OVER_PLAIN, into_ram && before->plain);
+    see(LOADED_LARGEST, c->device.counters[target] == SHE_MAX_COUNTER);
+    see(LOADED_DROPPING, c->marks & DROPPED_FLAG && !into_ram);
+    see(LOADED_LOCKED_TARGET, before->debugger && before->flags[target] & SHE_DEBUGGER);
+    see(LOADED_AGAIN, c->marks & REPLAYED);
+}
+
+static void look_at_refused(const struct call *c) {
+    unsigned faults = c->marks & (FAULTS | REPLAYED);
+    see(REFUSED_FORGED, faults == FORGED);
+    see(REFUSED_OTHER_BOARD, faults == OTHER_BOARD);
+    see(REFUSED_WILDCARD, faults == FORBIDDEN_WILDCARD);
+    see(REFUSED_FILLED, faults == FILLED);
+    see(REFUSED_NOT_NEWER, faults == NOT_NEWER);
+    see(REFUSED_AGAIN, faults == REPLAYED);
+}
+
+void count_call(const struct call *after, const struct she_device *before, uint8_t answer) {
+    answered[after->function - functions][answer]++;
+    calls++;
+    if (is_named(after, "verify_mac")) look_at_verify(after, answer);
+    if (is_named(after, "get_status")) look_at_status(after, answer);
+    if (is_named(after, "get_id")) see(ID_WITHOUT_MAC, answer == SHE_NO_ERROR && before->empty[SHE_MASTER_ECU_KEY]);
+    if (is_named(after, "load_key") && answer == SHE_NO_ERROR) look_at_loaded(after, before);
+    if (is_named(after, "load_key") && answer == SHE_KEY_UPDATE_ERROR) look_at_refused(after);
+    see(WIDE_SLOT, answer == SHE_KEY_INVALID && number_of(after, SLOT, 0) > 255);
+    look_at_mac(after, answer);
+    look_at_cbc(after, answer);
+}
+
+uint64_t calls_counted(void) { return calls; }
+
+/* Answers 5 and 9 to 11 aren't given by anything yet, so they have no column. */
+static const unsigned columns[] = {0, 1, 2, 3, 4, 6, 7, 8, 12};
+enum { COLUMNS = sizeof columns / sizeof *columns };
+
+void print_counts(void) {
+    printf("%-16s", "answers");
+    for (size_t k = 0; k < COLUMNS; k++) printf("%10u", columns[k]);
+    putchar('\n');
+    for (size_t i = 0; i < function_count; i++) {
+        printf("%-16s", functions[i].name);
+        for (size_t k = 0; k < COLUMNS; k++)
+            if (functions[i].answers >> columns[k] & 1) printf("%10" PRIu64, answered[i][columns[k]]);
+            else printf("%10s", "-");
+        putchar('\n');
+    }
+    for (size_t i = 0; i < SIGHT_COUNT; i++) printf("%10" PRIu64 "  %s\n", seen[i], sight_texts[i]);
+}
+
+int is_anything_missing(void) {
+    int missing = 0;
+    for (size_t i = 0; i < function_count; i++)
+        for (unsigned answer = 0; answer < ANSWERS; answer++)
+            if (functions[i].answers >> answer & 1 && !answered[i][answer])
+                missing = 1, printf("MISSING: %s never answered %u\n", functions[i].name, answer);
+    for (size_t i = 0; i < SIGHT_COUNT; i++)
+        if (!seen[i]) missing = 1, printf("MISSING: %s\n", sight_texts[i]);
+    return missing;
+}

@@ -1,0 +1,199 @@
+/* What is small enough to be tried whole: every value of every byte of a record, every slot, every pair, every bit. */
+#include "together.h"
+
+#include <inttypes.h>
+#include <stdio.h>
+#include <string.h>
+
+extern __typeof__(she_cmac) second_cmac;
+
+#define LENGTH(array) (sizeof(array) / sizeof *(array))
+
+static struct call c;
+static const char *sweep;
+static uint64_t seed, calls;
+
+static uint8_t run(void) {
+    char where[96];
+    snprintf(where, sizeof where, "sweep of %s, seed %" PRIu64 ", call %" PRIu64, sweep, seed, calls++);
+    return call_both(&c, where);
+}
+
+static int takes(const struct function *f, enum number_kind kind) {
+    for (size_t i = 0; f->numbers[i] != NO_NUMBER; i++)
+        if (f->numbers[i] == kind) return 1;
+    return 0;
+}
+
+/* Marks, counters, flags: which records count as made. */
+static void sweep_record(const struct she_device *d) {
+    const struct function *f = function_named("get_status");
+    for (size_t at = 0; at < MEANT; at++)
+        for (unsigned value = 0; value < 256; value++) {
+            prepare_call(&c, f, d, NULL);
+            c.piece[THE_RECORD].bytes[at] = (uint8_t)value;
+            run();
+        }
+}
+
+static void sweep_slots(const struct she_device *d) {
+    static const uint32_t wide[] = {0x104, 0x10D, 0x10E, 0x10004, 0x1000004, 0x80000004, 0xFFFFFFF4, 0xFFFFFFFF};
+    for (const struct function *f = functions; f < functions + function_count; f++)
+        for (size_t i = 0; takes(f, SLOT) && i < 256 + LENGTH(wide); i++) {
+            uint64_t numbers[MAX_NUMBERS] = {i < 256 ? i : wide[i - 256], i, i % 128, 0};
+            prepare_call(&c, f, d, numbers);
+            run();
+        }
+}
+
+static void sweep_writers(const struct she_device *d) {
+    static const uint32_t slots[] = {0, 1, 2, 3, 4, 5, 6, 7, 8, 9, 10, 11, 12, 13, 14, 15, 16, 17, 30, 255, 256, 257, 260, 270,
+                                     0x10004, 0xFFFFFFFF};
+    for (const struct function *f = functions; f < functions + function_count; f++)
+        for (size_t i = 0; takes(f, TARGET) && i < LENGTH(slots) * LENGTH(slots); i++) {
+            prepare_call(&c, f, d, NULL);
+            c.number[0] = slots[i / LENGTH(slots)];
+            c.number[1] = slots[i % LENGTH(slots)];
+            run();
+        }
+}
+
+static void plan_load(struct plan *p, const struct she_device *d, uint32_t target, uint32_t authority) {
+    plan_message(p, d);
+    memcpy(p->uid, d->uid, sizeof p->uid);
+    memset(p->filler, 0, sizeof p->filler);
+    p->target = target;
+    p->authority = authority;
+    p->counter = target < SHE_SLOTS && d->counters[target] < SHE_MAX_COUNTER ? d->counters[target] + 1 : SHE_MAX_COUNTER;
+    memset(p->key, 0xFF, sizeof p->key);
+    if (authority < SHE_SLOTS && !d->empty[authority]) memcpy(p->key, d->keys + 16 * authority, 16);
+}
+
+static uint8_t run_load(const struct plan *p, const struct she_device *d) {
+    struct message m;
+    prepare_call(&c, function_named("load_key"), d, NULL);
+    build_message(p, &m);
+    put_message(&c, &m);
+    return run();
+}
+
+/* Every slot byte with a message that its authority has sealed, to this board and to any. */
+static void sweep_slot_bytes(const struct she_device *d) {
+    for (unsigned slots = 0; slots < 512; slots++) {
+        struct plan p;
+        plan_load(&p, d, slots / 16 % 16, slots % 16);
+        if (slots >= 256) memset(p.uid, 0, sizeof p.uid);
+        run_load(&p, d);
+    }
+}
+
+/* Every slot with every set of flags, by itself or by SECRET_KEY. */
+static void sweep_flags(const struct she_device *d) {
+    for (unsigned i = 0; i < 14 * 32; i++) {
+        struct plan p;
+        uint32_t target = 1 + i / 32;
+        plan_load(&p, d, target, target == SHE_RAM_KEY ? 0 : target == SHE_BOOT_MAC ? 2 : target);
+        p.flags = i % 32;
+        run_load(&p, d);
+    }
+}
+
+/* Every one of the 95 bits, for a slot with a counter and for RAM_KEY. */
+static void sweep_filler(const struct she_device *d) {
+    for (unsigned bit = 33; bit < 128; bit++)
+        for (unsigned ram = 0; ram < 2; ram++) {
+            struct plan p;
+            plan_load(&p, d, ram ? SHE_RAM_KEY : SHE_KEY_1, ram ? SHE_SECRET_KEY : SHE_KEY_1);
+            p.filler[bit / 8 - 4] = (uint8_t)(0x80 >> bit % 8);
+            run_load(&p, d);
+        }
+}
+
+/* Every bit of M1, M2 and M3 turned over after sealing. */
+static void sweep_damage(const struct she_device *d) {
+    for (size_t bit = 0; bit < 8 * sizeof(struct message); bit++) {
+        struct plan p;
+        struct message m;
+        plan_load(&p, d, SHE_RAM_KEY, SHE_SECRET_KEY);
+        prepare_call(&c, function_named("load_key"), d, NULL);
+        build_message(&p, &m);
+        ((uint8_t *)&m)[bit / 8] ^= (uint8_t)(0x80 >> bit % 8);
+        put_message(&c, &m);
+        run();
+    }
+}
+
+/* Every counter at which something may turn, against every other. */
+static void sweep_counters(const struct she_device *d) {
+    static const uint32_t counters[] = {0, 1, 2, 15, 16, 255, 256, 0xFFFF, 0x10000, 0xFFFFFF, 0x1000000, SHE_MAX_COUNTER - 1,
+                                        SHE_MAX_COUNTER};
+    for (size_t i = 0; i < LENGTH(counters) * LENGTH(counters) * SHE_SLOTS; i++) {
+        struct she_device other = *d;
+        struct plan p;
+        uint32_t target = (uint32_t)(i % SHE_SLOTS);
+        if (target != SHE_SECRET_KEY && target != SHE_RAM_KEY && !d->empty[target])
+            other.counters[target] = counters[i / SHE_SLOTS % LENGTH(counters)];
+        plan_load(&p, &other, target, target == SHE_RAM_KEY ? SHE_SECRET_KEY : target);
+        p.counter = counters[i / SHE_SLOTS / LENGTH(counters)];
+        run_load(&p, &other);
+    }
+}
+
+/* Every length of a compared MAC with every single bit of it wrong, and none. */
+static void sweep_mac_bits(const struct she_device *made) {
+    struct she_device d = *made;
+    d.empty[SHE_RAM_KEY] = 0;
+    for (unsigned i = 0; i < 130 * 129; i++) {
+        uint64_t numbers[MAX_NUMBERS] = {SHE_RAM_KEY, i % 300, i / 129, 0};
+        uint8_t mac[16];
+        prepare_call(&c, function_named("verify_mac"), &d, numbers);
+        second_cmac(d.keys + 16 * SHE_RAM_KEY, 16, numbers[1], c.piece[BUFFERS].bytes, c.piece[BUFFERS].length, mac, 16);
+        if (i % 129 < 128) mac[i % 129 / 8] ^= (uint8_t)(0x80 >> i % 129 % 8);
+        put(&c, "mac", mac, sizeof mac);
+        run();
+    }
+}
+
+static void sweep_bits(const struct she_device *d) {
+    for (uint64_t bits = 0; bits < 1200; bits++) {
+        prepare_call(&c, function_named("cmac"), d, &bits);
+        run();
+    }
+}
+
+/* Every buffer of every function at every small length, the others being right. */
+static void sweep_lengths(const struct she_device *d) {
+    for (const struct function *f = functions; f < functions + function_count; f++)
+        for (size_t i = 0; i < buffer_count(f) * 70; i++) {
+            prepare_call(&c, f, d, NULL);
+            memset(c.piece[BUFFERS + i / 70].bytes, 0x5A, i % 70);
+            set_length(&c, i / 70, i % 70);
+            run();
+        }
+}
+
+static const struct {
+    const char *name;
+    void (*sweep)(const struct she_device *);
+} sweeps[] = {
+    {"records", sweep_record},       {"slots", sweep_slots},   {"writers", sweep_writers}, {"slot bytes", sweep_slot_bytes},
+    {"flags", sweep_flags},          {"filler", sweep_filler}, {"damage", sweep_damage},   {"counters", sweep_counters},
+    {"bits compared", sweep_mac_bits}, {"bits", sweep_bits},   {"lengths", sweep_lengths},
+};
+
+int run_sweeps(uint64_t from) {
+    enum { RECORDS = 6 };
+    seed = from;
+    for (size_t i = 0; i < LENGTH(sweeps); i++) {
+        sweep = sweeps[i].name;
+        calls = 0;
+        for (uint64_t k = 0; k < RECORDS; k++) {
+            struct she_device d;
+            seed_random(seed, k);
+            (k % 3 ? rich_record : make_record)(&d);
+            sweeps[i].sweep(&d);
+        }
+        printf("sweep of %s: %" PRIu64 " calls to each, no difference\n", sweep, calls);
+    }
+    return 0;
+}
