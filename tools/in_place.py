@@ -8,9 +8,10 @@ The prover has no walk of its own for a reference to a struct, so each of these 
     *device = reply.device;
     reply.answer
 
-and so one proof, but for the places in memory where the walk finds each local, which depend on the parameters. This program counts
-them: it reads the routines in crates/board/src/lib.rt and writes their proofs. Nothing rests on it, as the checker checks what it
-has written. With --check it writes nothing and fails where a proof is not what it would write.
+and so one proof, tools/in_place.template, but for the parameters and for the places in memory where the walk finds each local,
+which depend on them. This program reads the routines in crates/board/src/lib.rt, counts, and fills the template in. Nothing rests
+on it, as the checker checks what it has written. With --check it writes nothing, and fails where a proof is not what it would
+write.
 """
 import os
 import re
@@ -18,6 +19,7 @@ import sys
 
 SOURCE = "crates/board/src/lib.rt"
 SHARED = "crates/board/proofs/InPlace.antt"
+TEMPLATE = "tools/in_place.template"
 KINDS = {"&[u8]": "shared", "&mut [u8]": "lent", "&mut u8": "byte", "u32": "u32", "u64": "u64"}
 WIDTH = {"u32": 32, "u64": 64}
 COLUMNS = 126
@@ -30,57 +32,8 @@ PLAIN = {
     "lib.ListN": ["length"],
 }
 
-class Parameter:
-    """A parameter after the record. Those that are references have a lifetime of their own, numbered from 1."""
 
-    def __init__(self, name, kind, lifetime):
-        self.name, self.kind, self.lifetime = name, kind, lifetime
-        self.is_ref = kind in ("shared", "lent", "byte")
-        self.is_slice = kind in ("shared", "lent")
-        self.is_written = kind in ("lent", "byte")
-        self.width = WIDTH.get(kind)
-        self.holds = "List ℕ" if self.is_slice else "ℕ"
-        self.denotes = f"RefT ({self.holds})" if self.is_ref else "ℕ"
-        self.term = f"ref-{name}" if self.is_ref else name
-        self.value = f"val-{name}" if self.is_ref else f"vint w{self.width} {name}"
-
-    def row(self, shift=0):
-        """Its type, as the routine has it, or as the command has it, which has no record by reference before it."""
-        at = f"(named {self.lifetime - shift}) κ{self.name} u8" if self.is_ref else ""
-        return {"shared": "ShrSlice ", "lent": "MutSlice ", "byte": "MutRef "}.get(self.kind, self.kind) + at
-
-    def stays(self):
-        return {
-            "shared": f"stay-none-slice ({self.lifetime} ∷ []) tt (plain (λ _. u8)) yes",
-            "lent": f"gave-slice ({self.lifetime} ∷ []) tt (plain (λ _. u8))",
-            "byte": f"gave-ref ({self.lifetime} ∷ []) tt (plain (λ _. u8))",
-        }.get(self.kind, f"stay-none (λ _. {self.kind}) yes")
-
-    def goes(self, lifetimes):
-        return {
-            "shared": f"goes-none-slice 𝓤 H A W {lifetimes} ({self.lifetime} ∷ []) tt (plain (λ _. u8)) yes",
-            "lent": f"goes-gave-slice 𝓤 H A W {lifetimes} {self.lifetime} tt (plain (λ _. u8))",
-            "byte": f"goes-gave-ref 𝓤 H A W {lifetimes} {self.lifetime} tt (plain (λ _. u8))",
-        }.get(self.kind, f"goes-none 𝓤 H A W {lifetimes} (λ _. {self.kind}) yes (λ κs x f. refl)")
-
-    def binders(self):
-        n = self.name
-        if self.is_ref:
-            return f"(κ{n} : Lft) (q{n} : Share) (b{n} o{n} : ℕ) (γ{n} : GName) ({n} : {self.holds})"
-        return f"({n} : ℕ) (fits-{n} : {n} < 2 ^ {self.width})"
-
-    def spells(self):
-        return "slice-vals" if self.is_slice else "ptr-vals" if self.is_ref else f"uint-vals w{self.width}"
-
-    def tells(self):
-        at = f"(named {self.lifetime}) (κs{path(self.lifetime)}) u8" if self.is_ref else ""
-        return {"shared": "shr-slice-tells ", "lent": "mut-slice-tells ", "byte": "mut-tells "}.get(self.kind, f"uint-tells w{self.width}") + at
-
-    def lands(self):
-        """That the value passed for it has the type of its local."""
-        if self.is_slice:
-            return f"(tt, (tt, (record {{ fits = room-{self.name} .0 }}, tt)))"
-        return "(tt, tt)" if self.is_ref else f"(tt, record {{ fits = fits-{self.name} }})"
+# ---- text
 
 
 def path(index):
@@ -105,291 +58,8 @@ def chain(items):
     return " ∷ ".join([str(item) for item in items] + ["[]"])
 
 
-class Context:
-    """The resources at hand, by name, and the steps that were taken; a step finds a resource by its position."""
-
-    def __init__(self, *names):
-        self.names, self.steps = list(names), []
-
-    def do(self, *steps):
-        self.steps += steps
-
-    def front(self, *names):
-        positions = [self.names.index(name) for name in names]
-        if positions != list(range(len(positions))):
-            self.do(f"move ! ({chain(positions)})")
-        self.names = list(names) + [name for name in self.names if name not in names]
-
-    def split(self, part):
-        """The first resource is a part and the rest, which keeps its name."""
-        self.do("fsplit !")
-        self.names.insert(0, part)
-
-    def drop(self):
-        self.do("drop !")
-        self.names.pop(0)
-
-    def join(self, part, whole):
-        self.front(part, whole)
-        self.do("fjoin !")
-        self.names.pop(0)
-
-
-class Routine:
-    def __init__(self, name, parameters, command, equation, uses):
-        self.name, self.parameters, self.equation, self.uses = name, parameters, equation, uses
-        crate, _, self.command = command.rpartition("::")
-        self.crate = crate or "board"
-        self.refs = [p for p in parameters if p.is_ref]
-        self.written = [p for p in parameters if p.is_written]
-        self.shared = [p for p in parameters if p.kind == "shared"]
-        self.slices = [p for p in parameters if p.is_slice]
-        self.lifetimes = 1 + len(self.refs)
-        # locals in the order of the compiled code: result, record, parameters, the copy, the reply, and for each buffer that is
-        # written to a pointer and, of a slice, the slice made anew
-        self.locals = ["_0", "device"] + [p.name for p in parameters] + ["before", "reply"]
-        for p in self.written:
-            self.locals += [p.name + " pointer"] + ([p.name + " slice"] if p.is_slice else [])
-
-    def at(self, base, local):
-        """Where a local stands, if the last stands at base: its cell, and then what it owns."""
-        return base + 2 * (len(self.locals) - 1 - self.locals.index(local))
-
-    def last(self, p):
-        return f"zs{path(1 + self.parameters.index(p))}"
-
-    # ---- the pieces of text that recur
-
-    def prepare(self):
-        P = self.parameters
-        self.tokens = "(" + " ⊛ ".join([f"‵ (flft κ{p.name} q{p.name})" for p in self.refs] + ["‵ ftrue"]) + ")"
-        self.lives = nested([f"κ{p.name}" for p in self.refs])
-        self.shares = nested([f"q{p.name}" for p in self.refs])
-        self.arguments = nested(["h"] + [p.term for p in P])
-        self.values = nested(["vals h"] + [f"{p.value} ∷ []" for p in P])
-        self.names = "".join(p.name + " " for p in P)
-        self.say = f"Says h {self.names}r" + "".join(f" ({self.last(p)})" for p in self.written)
-        self.lasts = f"lasts g.ended {self.lives} {self.arguments} zs"
-        self.all_lives = nested(["κ"] + ["κ" + p.name for p in self.refs])
-        self.all_shares = nested(["q"] + ["q" + p.name for p in self.refs])
-        self.binds = f"(({self.all_lives}, {self.all_shares}, tt, passed, at-entry), tt)"
-
-    def statements(self):
-        """What the file declares before the walk."""
-        P, w = self.parameters, []
-        kept = "ftrue"
-        for p in reversed(self.shared):
-            kept = f"fsep ({p.row()} .own ref-{p.name} (val-{p.name} ∷ [])) ({kept})"
-        w += ["abbrev Arg : Type 0", f"Arg = {product(['RefT Device'] + [p.denotes for p in P])}", ""]
-        w += ["abbrev stayed : Stays (f.ended .signature .params) (f.ended .kept)",
-              f"stayed = {nested(['stay-ref (0 ∷ []) tt (plain (λ _. T.the-row))'] + [p.stays() for p in P])}", ""]
-        w += ["-- what the command says of its reply and of the last bytes of each buffer",
-              f"abbrev Says : Device → {''.join(p.holds + ' → ' for p in P)}Reply → {''.join(p.holds + ' → ' for p in self.written)}Type 0",
-              f"Says h {self.names}r {''.join(p.name + '′ ' for p in self.written)}= {self.equation}", ""]
-        w += ["-- the contract that the proof cites",
-              "abbrev Core : {M : Type 1} (𝓤 : URA M) (H : Heap 𝓤) (A : Atoms 𝓤) (at-mem : Memory → SProp 𝓤) (run : Routine → Fun 𝓤) → Contract 𝓤",
-              "Core 𝓤 H A at-mem run = tripleOf 𝓤 H A g.signature (g.spec 𝓤 H A at-mem run)", ""]
-        w += ["module _ {M : Type 1} (𝓤 : URA M) (H : Heap 𝓤) (A : Atoms 𝓤) (W : Given 𝓤 H A) (at-mem : Memory → SProp 𝓤) (run : Routine → Fun 𝓤)"
-              " (κ : Lft) (q : Share) (b o : ℕ) (γ : GName) (h : Device)" + "".join(" " + p.binders() for p in P) + " where"]
-        for p in self.refs:
-            n = p.name
-            w += [f"  abbrev ref-{n} : {p.denotes}", f"  ref-{n} = record {{ ptr = (b{n}, o{n}); name = γ{n}; now = {n} }}", ""]
-            w += [f"  abbrev val-{n} : Val", f"  val-{n} = " + (f"sliceVal (b{n}, o{n}) (length {n})" if p.is_slice else f"vptr b{n} o{n}"), ""]
-        w += ["  abbrev passed : Arg", f"  passed = {nested(['record { ptr = (b, o); name = γ; now = h }'] + [p.term for p in P])}", ""]
-        w += [f"  abbrev at-entry : {product(['List Val'] * (1 + len(P)))}", f"  at-entry = {nested(['vptr b o ∷ []'] + [p.value + ' ∷ []' for p in P])}", ""]
-        w += ["  abbrev Post : Val → SProp 𝓤", f"  Post = walkOf 𝓤 H A f.ended stayed (f.clauses 𝓤 H A at-mem run) .post {self.binds}", ""]
-        w += ["  -- what the command's contract binds", "  abbrev to : Core 𝓤 H A at-mem run .Ghost",
-              f"  to = (({self.lives}, {self.shares}, tt, {self.arguments}, {self.values}), tt)", ""]
-        w += ["  -- what is kept of the buffers that are only read, over the call", "  abbrev Kept : Fml", f"  Kept = {kept}", ""]
-        return w
-
-    def before_the_call(self):
-        """From what the caller has to what the command asks, and what is kept."""
-        P, w = self.parameters, []
-        rows = chain(["T.the-row"] + [p.row(1) for p in P])
-        asked = f"{self.tokens} ∷ ‵ (owns ({rows}) {self.arguments} {self.values}) ∷ []"
-        w += [f"  asked : ent 𝓤 (⋆ 𝓤 H A ({asked})) (Core 𝓤 H A at-mem run .pre to)", f"  asked = qed W ({asked}) ∵ join ! $ frame ! $ done !", ""]
-        has = f"{self.tokens} ∷ ‵ (owns ({chain([p.row() for p in P])}) (passed .1) (at-entry .1)) ∷ []"
-        c = Context("tokens", "rest")
-        c.front("rest")
-        for p in P:
-            c.front("rest")
-            c.split(p.name)
-            if p.kind == "shared":
-                own = f"‵ ({p.row()} .own ref-{p.name} (val-{p.name} ∷ []))"
-                c.do(f"use1 W ({own} ⊛ {own}) (shr-slice-copy 𝓤 H A W (named {p.lifetime}) κ{p.name} u8 .twice ref-{p.name} (val-{p.name} ∷ []))", "split !")
-                c.names.insert(1, p.name + " kept")
-        c.front("rest")
-        for p in reversed(self.shared):
-            c.join(p.name + " kept", "rest")
-        c.do("nothing !")
-        c.names.insert(0, "arguments")
-        for p in reversed(P):
-            c.join(p.name, "arguments")
-        c.do("owned ! T.the-row (Is T.the-row) (LL.makes T.the-type T′.the-plain 𝓤 H A) h _ was")
-        c.names.insert(0, "record")
-        c.join("record", "arguments")
-        c.front("tokens", "arguments")
-        c.do("use2 W (raw (Core 𝓤 H A at-mem run .pre to)) asked", "frame !", "done !")
-        w += [f"  apart : Is T.the-row h (vals h) → ent 𝓤 (⋆ 𝓤 H A ({has})) (sep 𝓤 (Core 𝓤 H A at-mem run .pre to) (sem 𝓤 H A Kept))",
-              "  apart was =", f"      qed W ({has}) ∵ " + " $ ".join(c.steps), ""]
-        return w
-
-    def after_the_call(self):
-        """From what the routine has at its end to what it owes."""
-        P, w = self.parameters, []
-        has = chain(["‵ (fobs γ (T.the-row .coded .code (r .device)))", "‵ (fbor κ (Body (mem T.the-row) b o γ))", "‵ (flft κ q)", self.tokens, f"‵ ({self.lasts})", "‵ Kept"])
-        c = Context("seen", "borrow", "token", "tokens", "lasts", "kept")
-        c.front("lasts")
-        c.split("record")
-        c.drop()
-        opened = 0
-        for p in P:
-            c.front("lasts")
-            c.split(p.name)
-            if p.kind == "lent":
-                c.do("fsplit !", "move ! (1 ∷ [])", f"feqL ! (λ l{p.name}. ")
-                opened += 1
-            elif not p.is_written:
-                c.drop()
-        c.front("lasts")
-        c.drop()
-        exits = nested(["r .device"] + [self.last(p) if p.is_written else "tt" for p in P])
-        lengths = nested(["tt"] + ["l" + p.name if p.kind == "lent" else "tt" for p in P])
-        c.do(f"suffices ! _ (ends-at 𝓤 H A f.ended stayed (f.clauses 𝓤 H A at-mem run) W {self.binds} (vint w8 (r .answer)) (r .answer) {exits} {lengths})", "says ! e")
-        c.front("token", "tokens")
-        c.do("join !", "frame !")
-        c.names = c.names[2:]
-        for p in self.shared:
-            c.front("kept")
-            c.split(p.name)
-        c.front("kept")
-        for p in reversed(P):
-            if not p.is_ref:
-                c.do(f"owned ! {p.kind} (Is {p.kind}) (uint-makes 𝓤 H A W w{p.width}) {p.name} _ (refl, fits-{p.name})")
-                c.names.insert(0, p.name)
-            c.join(p.name, "kept")
-        c.do("feqI ! (List Val) (vptr b o ∷ []) (vptr b o ∷ []) refl")
-        c.names.insert(0, "pointer")
-        c.front("pointer", "seen", "borrow", "kept")
-        c.do("fjoin3 !", "fjoin !", "frame !", "owned ! u8 (Is u8) (uint-makes 𝓤 H A W w8) (r .answer) _ (refl, fits)", "done !")
-        w += [f"  exits : (r : Reply) (zs : Lasts g.ended {self.lives} {self.arguments}) → {self.say} → r .answer < 2 ^ 8 → ent 𝓤 (⋆ 𝓤 H A ({has})) (Post (vint w8 (r .answer)))",
-              "  exits r zs e fits =", f"      qed W ({has}) ∵ " + " $ ".join(c.steps).replace(".  $ ", ". ") + ")" * opened, ""]
-        return w
-
-    def walk(self):
-        P, count, w = self.parameters, len(self.locals), []
-        values = chain(["vptr b o"] + [p.value for p in P])
-        rows = chain(["MutRef (named 0) κ T.the-row"] + [p.row() for p in P])
-        entry = f"{self.all_lives} {self.all_shares} passed at-entry"
-        w += ["  module _ (C : Calls 𝓤 H) (Λ : Loops 𝓤 H) (fm : FmC 𝓤 H (W .laws) C) (known : Triple 𝓤 (C #g) (Core 𝓤 H A at-mem run)) where",
-              f"    walk : {''.join(f'Room u8 (length {p.name}) → ' for p in self.slices)}ent 𝓤 (onEntry 𝓤 H A f.signature {entry}) (WpFn 𝓤 H C Λ code.function ({values}) Post)",
-              f"    walk {''.join(f'room-{p.name} ' for p in self.slices)}="]
-        lines, closing = [], 0
-
-        def take(local, base, inner="stop !"):
-            return f"load ! (from ! ({inner})) (look ! {self.at(base, local)} refl)"
-
-        def field(local, index, base):
-            return f"load ! (from ! (fld ! refl (stop !))) (look-in ! {self.at(base, local)} (sub ! {index} refl (whole !)))"
-
-        lines.append(f"qed W ((‵ (flft κ q) ⊛ {self.tokens[1:]} ∷ ‵ (owns ({rows}) passed at-entry) ∷ []) ∵ split ! $ move ! (2 ∷ []) $ fsplit ! $ fsplit3 ! $ drop ! $ move ! (0 ∷ 1 ∷ 3 ∷ []) $")
-        lines.append(f"enter ! C Λ code.function ({values}) _ $")
-        lines.append("".join(f"alloc1 ! (λ l{i}. " for i in range(count)) + "alloc0 ! $ params1 ! $ "
-                     + f"pass1 ! (init ! {self.at(0, 'device')} refl (tt, tt)) $ "
-                     + "".join(f"pass1 ! (init ! {self.at(0, p.name)} refl {p.lands()}) $ " for p in P) + "pass0 ! $")
-        closing += count
-        lines.append("-- let before = *device")
-        lines.append(f"move ! ({chain([2 * count, 2 * count + 1, 2 * count + 2])}) $ opens ! tt T.the-row {{h = h}} b o (λ vs. spelt ! T.the-row (Is T.the-row) (shows 𝓤 H A T.the-row) vals (LL.tells T.the-type T′.the-laws) fullShare h vs b o $")
-        lines.append("move ! (1 ∷ []) $ peeks ! T.the-row (Is T.the-row) (shows 𝓤 H A T.the-row) h (vals h) (λ was. move ! (1 ∷ 0 ∷ []) $")
-        closing += 2
-        base = 5    # the cell, what the record owns, the open borrow, its two halves
-        lines.append(f"assigns ! (of-opd ! (load ! (from ! (hop ! (look ! {self.at(base, 'device')} refl) (stop !))) (look-raw ! 0 refl))) (from ! (stop !)) (init ! {self.at(base, 'before')} refl (LL.lawful T.the-type T′.the-laws 𝓤 H A W .typed h _ was .0)) $")
-        if self.written:
-            lines.append("-- what is written to is lent on")
-        for p in self.written:
-            if not p.is_slice:
-                lines.append(f"assigns ! (addr ! (from ! (hop ! (look ! {self.at(base, p.name)} refl) (stop !)))) (from ! (stop !)) (init ! {self.at(base, p.name + ' pointer')} refl (tt, tt)) $")
-                continue
-            lines.append(f"assigns ! (addr ! (from ! (fld ! refl (hop ! (look-in ! {self.at(base, p.name)} (sub ! 0 refl (whole !))) (stop !))))) (from ! (stop !)) (init ! {self.at(base, p.name + ' pointer')} refl (tt, tt)) $")
-            lines.append(f"assigns ! (agg ! (and-then ! ({take(p.name + ' pointer', base)}) (and-then ! ({field(p.name, 1, base)}) (no-more !)))) (from ! (stop !)) (init ! {self.at(base, p.name + ' slice')} refl {p.lands()}) $")
-        lines.append("-- let reply = the command's")
-        after = base + 2 * count
-        lines.append(f"move ! ({chain([after + 1, after])}) $ use2 W (raw (Core 𝓤 H A at-mem run .pre to) ⊛ ‵ Kept) (apart was) $ split ! $")
-        base += 2   # and what the command asks, what is kept
-        operands = "(no-more !)"
-        for local in reversed(["before"] + [p.name + (" slice" if p.is_slice else " pointer") if p.is_written else p.name for p in P]):
-            operands = f"(and-then ! ({take(local, base)}) {operands})"
-        lines.append(f"calls-at ! fm (Core 𝓤 H A at-mem run) known to {operands} (λ v.")
-        lines.append(f"use1 W (later (some (λ (r : Reply). ({self.tokens} ⊛ ‵ (O.the-row .own r (v ∷ []))) ⊛ raw (ensured 𝓤 H A g.ended (g.clauses 𝓤 H A at-mem run) {self.lives} {self.arguments} tt r)))) (id⊢ 𝓤 _) $ await ! tt $ pick ! (λ r.")
-        lines.append(f"split ! $ move ! (1 ∷ []) $ use1 W (some (λ (zs : Lasts g.ended {self.lives} {self.arguments}). ‵ ({self.lasts}) ⊛ raw (fact 𝓤 ({self.say})))) (id⊢ 𝓤 _) $ pick ! (λ zs.")
-        lines.append(f"split ! $ move ! (1 ∷ []) $ heard ! ({self.say}) (λ e. move ! (1 ∷ []) $ split ! $ move ! (1 ∷ []) $")
-        lines.append("peeks ! O.the-row (Is O.the-row) (shows 𝓤 H A O.the-row) r (v ∷ []) (λ is.")
-        closing += 5
-        base += 2   # the reply, the tokens, the last values, what is kept
-        reply = self.at(base, "reply")
-        lines.append(f"land ! (from ! (stop !)) (init ! {reply} refl (LL.lawful O.the-type O′.the-laws 𝓤 H A W .typed r _ is .0)) $")
-        lines.append(f"rewrite ! {reply} (λ (u : Val). ‵ (fat fullShare O′.mir l{self.locals.index('reply')} 0 u)) (ap only (LL.tells O.the-type O′.the-laws r _ is)) refl $")
-        lines.append("-- *device = reply.device, and the answer")
-        lines.append(f"assigns ! (of-opd ! ({field('reply', 1, base)})) (from ! (hop ! (look ! {self.at(base, 'device')} refl) (stop !))) (store-raw ! 4 refl (LL.lawful T.the-type T′.the-laws 𝓤 H A W .typed (r .device) _ (device-is r v is) .0)) $")
-        lines.append(f"assigns ! (of-opd ! ({field('reply', 0, base)})) (from ! (stop !)) (init ! {self.at(base, '_0')} refl (tt, record {{ fits = answer-fits r v is }})) $")
-        lines.append("drop ! $ move ! (4 ∷ []) $ drop ! $ owned ! T.the-row (Is T.the-row) (LL.makes T.the-type T′.the-plain 𝓤 H A) (r .device) _ (device-is r v is) $ move ! (4 ∷ 0 ∷ 5 ∷ 6 ∷ 7 ∷ []) $ closes ! tt T.the-row (r .device) (vals (r .device)) b o $")
-        base = 6    # the borrow and its token, the tokens, the last values, what is kept
-        lines.append(f"returns ! (look ! {self.at(base, '_0')} refl) $ " + " $ ".join(f"forget ! {base + 2 * i} refl" for i in range(count)) + " $")
-        lines.append(" $ ".join(f"move ! ({base + 2 * i} ∷ {base + 2 * i + 1} ∷ []) $ free1 !" for i in reversed(range(count))) + " $ free0 ! $")
-        lines.append("keep ! (0 ∷ 1 ∷ 2 ∷ 3 ∷ 4 ∷ 5 ∷ []) $ by ! (exits r zs e (answer-fits r v is)" + ")" * (closing + 1))
-        return w + ["        " + line for line in lines] + [""]
-
-    def conclusion(self):
-        P, w = self.parameters, []
-        given = "(κs .0) (qs .0) (a .0 .ptr .0) (a .0 .ptr .1) (a .0 .name) (a .0 .now)"
-        for i, p in enumerate(P, 1):
-            a = f"a{path(i)}"
-            if p.is_ref:
-                given += f" (κs{path(p.lifetime)}) (qs{path(p.lifetime)}) ({a} .ptr .0) ({a} .ptr .1) ({a} .name) ({a} .now)"
-            else:
-                given += f" ({a}) (are{path(i)} .1)"
-        rooms = "".join(f" (are{path(1 + P.index(p))} .0 .1)" for p in self.slices)
-        w += ["module _ {M : Type 1} (𝓤 : URA M) (H : Heap 𝓤) (A : Atoms 𝓤) (W : Given 𝓤 H A) (at-mem : Memory → SProp 𝓤) (run : Routine → Fun 𝓤) where",
-              "  walks : (C : Calls 𝓤 H) (Λ : Loops 𝓤 H) → FmC 𝓤 H (W .laws) C → Triple 𝓤 (C #g) (Core 𝓤 H A at-mem run) → Walks 𝓤 H A f.ended stayed (WpFn 𝓤 H C Λ code.function) (f.clauses 𝓤 H A at-mem run)",
-              f"  walks C Λ fm known = walked 𝓤 H A f.ended stayed (f.clauses 𝓤 H A at-mem run) (WpFn 𝓤 H C Λ code.function) (λ κs. {nested(['ptr-vals'] + [p.spells() for p in P])}) (λ κs. {nested(['mut-tells (named 0) (κs .0) T.the-row'] + [p.tells() for p in P])})"
-              f" (λ κs qs bounds a _ are. via 𝓤 _ (fst∗ 𝓤 _ (emp 𝓤)) (walk 𝓤 H A W at-mem run {given} C Λ fm known{rooms}))", ""]
-        w += [f"  goes : AllGo 𝓤 H A W {self.lifetimes} (f.signature .params) (f.ended .kept) stayed",
-              f"  goes = {nested([f'goes-ref 𝓤 H A W {self.lifetimes} 0 tt (plain (λ _. T.the-row))'] + [p.goes(self.lifetimes) for p in P])}", ""]
-        w += ["meets : {M : Type 1} (𝓤 : URA M) (H : Heap 𝓤) (A : Atoms 𝓤) → Given 𝓤 H A → (at-mem : Memory → SProp 𝓤) (run : Routine → Fun 𝓤) (𝓣 : Tables 𝓤 H) → Triple 𝓤 (𝓣 .C #g) (Core 𝓤 H A at-mem run) → Meets 𝓤 H A f.signature (WpFn 𝓤 H (𝓣 .C) (𝓣 .Λ) code.function) (f.spec 𝓤 H A at-mem run)",
-              "meets 𝓤 H A W at-mem run 𝓣 known = walk-meets 𝓤 H A f.ended stayed W (goes 𝓤 H A W at-mem run) (f.clauses 𝓤 H A at-mem run) (WpFn 𝓤 H (𝓣 .C) (𝓣 .Λ) code.function) (WpFn-mono 𝓤 H (W .laws) 𝓣 code.function) (walks 𝓤 H A W at-mem run (𝓣 .C) (𝓣 .Λ) (fmOf 𝓤 H (W .laws) 𝓣) known)", ""]
-        w += [f"pub {kebab(self.name)}-spec : {{M : Type 1}} → stated.statement M", "unfolding code.routine tablesOf",
-              f"{kebab(self.name)}-spec 𝓤 H 𝓜 𝓖 𝓡 = entered 𝓤 H (tripleOf 𝓤 H (𝓖 .A) f.signature (f.spec 𝓤 H (𝓖 .A) (𝓜 .mem) (𝓡 .run))) (tables 𝓤 H 𝓜 𝓡 code.env .C) (tables 𝓤 H 𝓜 𝓡 code.env .Λ) #f code.function (code.unfolded 𝓤 H 𝓜 𝓡)"
-              " (meets 𝓤 H (𝓖 .A) (givenOf 𝓤 H 𝓜 𝓖) (𝓜 .mem) (𝓡 .run) (tablesOf 𝓤 H 𝓜 (tables 𝓤 H 𝓜 𝓡 code.env))"
-              f" (cited 𝓤 H (Core 𝓤 H (𝓖 .A) (𝓜 .mem) (𝓡 .run)) 𝓜 𝓡 code.env #g g-def.routine code.calls-{self.crate}·{kebab(self.command)} (g-thm.met 𝓤 H 𝓜 𝓖 𝓡)))"]
-        return w
-
-    def text(self):
-        self.prepare()
-        body = self.statements() + self.before_the_call() + self.after_the_call() + self.walk() + self.conclusion()
-        own, command = "Rattle.board.proofs", "Rattle.board.proofs" if self.crate == "board" else f"Rattle.{self.crate}.proofs"
-        head = [f"-- `board::{self.name}` meets its contract: its code walked step by step. The borrow of the record is opened, the record",
-                f"-- copied out, `{self.command}` called, its record stored, and the borrow closed at it. Written by tools/in_place.py.",
-                "-- Assumes nothing."]
-        words = set(re.findall(r"[^\s()\[\]{},]+", "\n".join(body)))
-        for module, names in [*PLAIN.items(), (f"{own}.InPlace", shared_names())]:
-            used = [name for name in names if name.strip("_") in words or name == "[]"]
-            if used:
-                head.append(f"use {module}.{{{', '.join(used)}}}")
-        head += self.uses
-        for name, struct in (("T", "Device"), ("O", "Reply")):
-            head += [f"use Rattle.device.specs.declared.{struct}.{{{struct}}}", f"use Rattle.device.proofs.{struct} as {name}", f"use Rattle.device.proofs.{struct}.Laws as {name}′"]
-        head += ["use denote.Struct.Laws as LL"]
-        head += [f"use {command}.{self.command} as g", f"use {command}.{self.command}.Symbol as g-def", f"use {command}.{self.command}.Symbol.{{name as #g}}", f"use {command}.{self.command}.Met as g-thm"]
-        head += [f"use {own}.{self.name} as f", f"use {own}.{self.name}.Key.{{name as #f}}", f"use {own}.{self.name}.Statement as stated", f"use {own}.{self.name}.Code as code", ""]
-        return "\n".join(head + [part for line in body for part in broken(line)]) + "\n"
-
-
-def shared_names():
-    """What a proof may take from the file that they share: what that file hands on, and what it declares."""
-    text = open(SHARED, encoding="utf-8").read()
-    handed_on = [name for names in re.findall(r"^(?:unfoldable )?pub use \S+\.\{(.*)\}$", text, re.M) for name in names.split(", ")]
-    return handed_on + re.findall(r"^(?:abbrev )?pub ([\w′-]+) :", text, re.M)
+def each(items, text):
+    return "".join(text(item) for item in items)
 
 
 def kebab(name):
@@ -399,7 +69,7 @@ def kebab(name):
 def broken(line):
     """A long line in several: after a step of the walk, and else at any place outside brackets, whose inside `rt fmt` would lay
     out anew. What follows a declaration's first line is set in."""
-    if len(line) <= COLUMNS or line.lstrip().startswith("--"):
+    if len(line) <= COLUMNS or line.lstrip().startswith(("--", "use ")):
         return [line]
     indent = len(line) - len(line.lstrip())
     pieces, start, open_brackets = [], indent, []
@@ -412,40 +82,380 @@ def broken(line):
             pieces.append(line[start:i])
             start = i + 1
     pieces.append(line[start:])
+    goes_on = indent > 4 or line[indent] in "(→"
     parts, current = [], " " * indent + pieces[0]
     for piece in pieces[1:]:
         if len(current) + 1 + len(piece) > COLUMNS:
             parts.append(current)
-            current = " " * (indent if indent > 4 else indent + 4) + piece
+            current = " " * (indent if goes_on else indent + 4) + piece
         else:
             current += " " + piece
     return parts + [current]
 
 
+# ---- a parameter after the record
+
+
+class Parameter:
+    """Those that are references have a lifetime of their own, numbered from 1."""
+
+    def __init__(self, name, kind, lifetime):
+        self.name, self.kind, self.lifetime = name, kind, lifetime
+        self.is_ref = kind in ("shared", "lent", "byte")
+        self.is_slice = kind in ("shared", "lent")
+        self.is_written = kind in ("lent", "byte")
+        self.width = WIDTH.get(kind)
+        self.holds = "List ℕ" if self.is_slice else "ℕ"
+        self.denotes = f"RefT ({self.holds})" if self.is_ref else "ℕ"
+        self.term = f"ref-{name}" if self.is_ref else name
+        self.value = f"val-{name}" if self.is_ref else f"vint w{self.width} {name}"
+
+    def by_kind(self, shared, lent, byte, number):
+        return {"shared": shared, "lent": lent, "byte": byte}.get(self.kind, number)
+
+    def row(self, before=0):
+        """Its type, where so many lifetimes fewer come before it."""
+        at = f"(named {self.lifetime - before}) κ{self.name} u8"
+        return self.by_kind(f"ShrSlice {at}", f"MutSlice {at}", f"MutRef {at}", self.kind)
+
+    def stays(self):
+        at = f"({self.lifetime} ∷ []) tt (plain (λ _. u8))"
+        number = f"stay-none (λ _. {self.kind}) yes"
+        return self.by_kind(f"stay-none-slice {at} yes", f"gave-slice {at}", f"gave-ref {at}", number)
+
+    def goes(self, count):
+        at, given = f"𝓤 H A W {count}", f"{self.lifetime} tt (plain (λ _. u8))"
+        read = f"goes-none-slice {at} ({self.lifetime} ∷ []) tt (plain (λ _. u8)) yes"
+        number = f"goes-none {at} (λ _. {self.kind}) yes (λ κs x f. refl)"
+        return self.by_kind(read, f"goes-gave-slice {at} {given}", f"goes-gave-ref {at} {given}", number)
+
+    def binders(self):
+        n = self.name
+        if self.is_ref:
+            return f" (κ{n} : Lft) (q{n} : Share) (b{n} o{n} : ℕ) (γ{n} : GName) ({n} : {self.holds})"
+        return f" ({n} : ℕ) (fits-{n} : {n} < 2 ^ {self.width})"
+
+    def reference(self):
+        n = self.name
+        value = f"sliceVal (b{n}, o{n}) (length {n})" if self.is_slice else f"vptr b{n} o{n}"
+        return (f"  abbrev ref-{n} : {self.denotes}\n  ref-{n} = record {{ ptr = (b{n}, o{n}); name = γ{n}; now = {n} }}\n\n"
+                f"  abbrev val-{n} : Val\n  val-{n} = {value}\n\n")
+
+    def spells(self):
+        return self.by_kind("slice-vals", "slice-vals", "ptr-vals", f"uint-vals w{self.width}")
+
+    def tells(self):
+        at = f"(named {self.lifetime}) (κs{path(self.lifetime)}) u8"
+        number = f"uint-tells w{self.width}"
+        return self.by_kind(f"shr-slice-tells {at}", f"mut-slice-tells {at}", f"mut-tells {at}", number)
+
+    def lands(self):
+        """That the value passed for it has the type of its local."""
+        whole = f"(tt, (tt, (record {{ fits = room-{self.name} .0 }}, tt)))"
+        return self.by_kind(whole, whole, "(tt, tt)", f"(tt, record {{ fits = fits-{self.name} }})")
+
+    def given(self, index):
+        """What the walk is given for it, of all that the contract binds."""
+        a, life = f"a{path(index)}", path(self.lifetime)
+        if self.is_ref:
+            return f" (κs{life}) (qs{life}) ({a} .ptr .0) ({a} .ptr .1) ({a} .name) ({a} .now)"
+        return f" ({a}) (are{path(index)} .1)"
+
+
+# ---- steps on resources
+
+
+class Context:
+    """The resources at hand, by name, and the steps that were taken; a step finds a resource by its position."""
+
+    def __init__(self, *names):
+        self.names, self.steps = list(names), []
+
+    def do(self, *steps):
+        self.steps += steps
+
+    def made(self, name, step):
+        self.do(step)
+        self.names.insert(0, name)
+
+    def front(self, *names):
+        positions = [self.names.index(name) for name in names]
+        if positions != list(range(len(positions))):
+            self.do(f"move ! ({chain(positions)})")
+        self.names = list(names) + [name for name in self.names if name not in names]
+
+    def split(self, part, rest):
+        """The rest comes to the front, and a part is taken off it."""
+        self.front(rest)
+        self.made(part, "fsplit !")
+
+    def drop(self, name):
+        self.front(name)
+        self.do("drop !")
+        self.names.pop(0)
+
+    def join(self, part, whole):
+        self.front(part, whole)
+        self.do("fjoin !")
+        self.names.pop(0)
+
+    def text(self):
+        return " $ ".join(self.steps).replace(".  $ ", ". ")
+
+
+# ---- a routine
+
+
+class Routine:
+    def __init__(self, name, parameters, command, equation, uses):
+        self.name, self.parameters, self.equation, self.uses = name, parameters, equation, uses
+        crate, _, self.command = command.rpartition("::")
+        self.crate = crate or "board"
+        self.refs = [p for p in parameters if p.is_ref]
+        self.written = [p for p in parameters if p.is_written]
+        self.shared = [p for p in parameters if p.kind == "shared"]
+        self.slices = [p for p in parameters if p.is_slice]
+        # locals in the order of the compiled code: result, record, parameters, the copy, the reply, and for each buffer that is
+        # written to a pointer and, of a slice, the slice made anew
+        self.locals = ["_0", "device"] + [p.name for p in parameters] + ["before", "reply"]
+        for p in self.written:
+            self.locals += [p.name + " pointer"] + ([p.name + " slice"] if p.is_slice else [])
+
+    def at(self, before, local):
+        """Where a local stands after so many other resources: the last comes first, each with its cell and what it owns."""
+        return before + 2 * (len(self.locals) - 1 - self.locals.index(local))
+
+    def last(self, p):
+        return f"zs{path(1 + self.parameters.index(p))}"
+
+    def before_the_call(self):
+        """From what the other parameters own to what the command asks and what is kept: what is only read is had twice."""
+        c = Context("tokens", "rest")
+        for p in self.parameters:
+            c.split(p.name, "rest")
+            if p.kind == "shared":
+                own = f"‵ ({p.row()} .own ref-{p.name} (val-{p.name} ∷ []))"
+                twice = f"shr-slice-copy 𝓤 H A W (named {p.lifetime}) κ{p.name} u8 .twice ref-{p.name} (val-{p.name} ∷ [])"
+                c.do(f"use1 W ({own} ⊛ {own}) ({twice})", "split !")
+                c.names.insert(1, p.name + " kept")
+        c.front("rest")
+        for p in reversed(self.shared):
+            c.join(p.name + " kept", "rest")
+        c.made("arguments", "nothing !")
+        for p in reversed(self.parameters):
+            c.join(p.name, "arguments")
+        c.made("record", "owned ! T.the-row (Is T.the-row) (LL.makes T.the-type T′.the-plain 𝓤 H A) h _ was")
+        c.join("record", "arguments")
+        c.front("tokens", "arguments")
+        c.do("use2 W (raw (Core 𝓤 H A at-mem run .pre to)) asked")
+        return c.text()
+
+    def at_the_end(self, bound):
+        """From what the walk leaves to what the contract owes, by what the command has said."""
+        c = Context("seen", "borrow", "token", "tokens", "lasts", "kept")
+        c.split("record", "lasts")
+        c.drop("record")
+        for p in self.parameters:
+            c.split(p.name, "lasts")
+            if p.kind == "lent":
+                c.do("fsplit !", "move ! (1 ∷ [])", f"feqL ! (λ l{p.name}. ")
+            elif not p.is_written:
+                c.drop(p.name)
+        c.drop("lasts")
+        exits = nested(["r .device"] + [self.last(p) if p.is_written else "tt" for p in self.parameters])
+        lengths = nested(["tt"] + ["l" + p.name if p.kind == "lent" else "tt" for p in self.parameters])
+        ends = f"ends-at 𝓤 H A f.ended stayed (f.clauses 𝓤 H A at-mem run) W {bound}"
+        c.do(f"suffices ! _ ({ends} (vint w8 (r .answer)) (r .answer) {exits} {lengths})", "says ! e")
+        c.front("token", "tokens")
+        c.do("join !", "frame !")
+        c.names = c.names[2:]
+        for p in self.shared:
+            c.split(p.name, "kept")
+        c.front("kept")
+        for p in reversed(self.parameters):
+            if not p.is_ref:
+                c.made(p.name, f"owned ! {p.kind} (Is {p.kind}) (uint-makes 𝓤 H A W w{p.width}) {p.name} _ (refl, fits-{p.name})")
+            c.join(p.name, "kept")
+        c.made("pointer", "feqI ! (List Val) (vptr b o ∷ []) (vptr b o ∷ []) refl")
+        c.front("pointer", "seen", "borrow", "kept")
+        c.do("fjoin3 !", "fjoin !", "frame !", "owned ! u8 (Is u8) (uint-makes 𝓤 H A W w8) (r .answer) _ (refl, fits)", "done !")
+        return c.text() + ")" * sum(p.kind == "lent" for p in self.parameters)
+
+    def lent_on(self, before):
+        """What is written to goes to the command by a pointer made anew, and a slice by a slice made of that."""
+        lines = []
+        for p in self.written:
+            place, pointer = self.at(before, p.name), self.at(before, p.name + " pointer")
+            if not p.is_slice:
+                lines.append(f"assigns ! (addr ! (from ! (hop ! (look ! {place} refl) (stop !)))) (from ! (stop !))"
+                             f" (init ! {pointer} refl (tt, tt)) $")
+                continue
+            lines.append(f"assigns ! (addr ! (from ! (fld ! refl (hop ! (look-in ! {place} (sub ! 0 refl (whole !))) (stop !)))))"
+                         f" (from ! (stop !)) (init ! {pointer} refl (tt, tt)) $")
+            length = f"load ! (from ! (fld ! refl (stop !))) (look-in ! {place} (sub ! 1 refl (whole !)))"
+            lines.append(f"assigns ! (agg ! (and-then ! (load ! (from ! (stop !)) (look ! {pointer} refl)) (and-then ! ({length})"
+                         f" (no-more !)))) (from ! (stop !)) (init ! {self.at(before, p.name + ' slice')} refl {p.lands()}) $")
+        return "\n        ".join(lines)
+
+    def operands(self, before):
+        """What the call is given: the copy of the record, and each parameter or what was made anew of it."""
+        text = "(no-more !)"
+        passed = [p.name + (" slice" if p.is_slice else " pointer") if p.is_written else p.name for p in self.parameters]
+        for local in reversed(["before"] + passed):
+            text = f"(and-then ! (load ! (from ! (stop !)) (look ! {self.at(before, local)} refl)) {text})"
+        return text
+
+    def kept(self):
+        text = "ftrue"
+        for p in reversed(self.shared):
+            text = f"fsep ({p.row()} .own ref-{p.name} (val-{p.name} ∷ [])) ({text})"
+        return text
+
+    def places(self):
+        """What goes into the template."""
+        P, count = self.parameters, len(self.locals)
+        lives, shares = ["κ" + p.name for p in self.refs], ["q" + p.name for p in self.refs]
+        tokens = [f"‵ (flft {life} {share})" for life, share in zip(lives, shares)] + ["‵ ftrue"]
+        arguments = nested(["h"] + [p.term for p in P])
+        bound = f"(({nested(['κ'] + lives)}, {nested(['q'] + shares)}, tt, passed, at-entry), tt)"
+        seen = ["‵ (fobs γ (T.the-row .coded .code (r .device)))", "‵ (fbor κ (Body (mem T.the-row) b o γ))", "‵ (flft κ q)"]
+        held = [f"({' ⊛ '.join(tokens)})", f"‵ (lasts g.ended {nested(lives)} {arguments} zs)", "‵ Kept"]
+        given = "(κs .0) (qs .0) (a .0 .ptr .0) (a .0 .ptr .1) (a .0 .name) (a .0 .now)"
+        others = 5 + 2 * count   # after the open borrow with its parts, and the locals
+        cells = range(6, 6 + 2 * count, 2)   # of the locals at the end
+        return {
+            "name": self.name,
+            "kebab name": kebab(self.name),
+            "crate": self.crate,
+            "command": self.command,
+            "kebab command": kebab(self.command),
+            "command_place": "Rattle.board.proofs" if self.crate == "board" else f"Rattle.{self.crate}.proofs",
+            "lifetimes": str(1 + len(self.refs)),
+            "denoted": product(["RefT Device"] + [p.denotes for p in P]),
+            "stays": nested(["stay-ref (0 ∷ []) tt (plain (λ _. T.the-row))"] + [p.stays() for p in P]),
+            "goes": nested([f"goes-ref 𝓤 H A W {1 + len(self.refs)} 0 tt (plain (λ _. T.the-row))"]
+                           + [p.goes(1 + len(self.refs)) for p in P]),
+            "held → ": each(P, lambda p: p.holds + " → "),
+            "held at exit → ": each(self.written, lambda p: p.holds + " → "),
+            "names": each(P, lambda p: p.name + " "),
+            "names at exit": each(self.written, lambda p: p.name + "′ "),
+            "equation": self.equation,
+            "binders": each(P, Parameter.binders),
+            "references": each(self.refs, Parameter.reference).rstrip("\n") + "\n" if self.refs else "",
+            "passed": nested(["record { ptr = (b, o); name = γ; now = h }"] + [p.term for p in P]),
+            "entry values' type": product(["List Val"] * (1 + len(P))),
+            "entry values": nested(["vptr b o ∷ []"] + [p.value + " ∷ []" for p in P]),
+            "bound": bound,
+            "lives": nested(lives),
+            "shares": nested(shares),
+            "all lives": nested(["κ"] + lives),
+            "all shares": nested(["q"] + shares),
+            "arguments": arguments,
+            "values": nested(["vals h"] + [p.value + " ∷ []" for p in P]),
+            "kept": self.kept(),
+            "tokens": f"({' ⊛ '.join(tokens)})",
+            "all tokens": f"({' ⊛ '.join(['‵ (flft κ q)'] + tokens)})",
+            "rows of the command": chain(["T.the-row"] + [p.row(1) for p in P]),
+            "rows": chain([p.row() for p in P]),
+            "all rows": chain(["MutRef (named 0) κ T.the-row"] + [p.row() for p in P]),
+            "steps before the call": self.before_the_call(),
+            "said": f"Says h {each(P, lambda p: p.name + ' ')}r" + each(self.written, lambda p: f" ({self.last(p)})"),
+            "at the end": chain(seen + held),
+            "steps at the end": self.at_the_end(bound),
+            "room → ": each(self.slices, lambda p: f"Room u8 (length {p.name}) → "),
+            "rooms": each(self.slices, lambda p: f"room-{p.name} "),
+            "machine values": chain(["vptr b o"] + [p.value for p in P]),
+            "locals are made": each(range(count), lambda i: f"alloc1 ! (λ l{i}. "),
+            "parameters are passed": f"pass1 ! (init ! {self.at(0, 'device')} refl (tt, tt)) $ "
+            + each(P, lambda p: f"pass1 ! (init ! {self.at(0, p.name)} refl {p.lands()}) $ "),
+            "the borrow's places": chain([2 * count, 2 * count + 1, 2 * count + 2]),
+            "lent on": self.lent_on(5),
+            "what the others own": chain([others + 1, others]),
+            "operands": self.operands(7),
+            "reply's name": f"l{self.locals.index('reply')}",
+            "locals are forgotten": " $ ".join(f"forget ! {cell} refl" for cell in cells),
+            "locals are freed": " $ ".join(f"move ! ({cell} ∷ {cell + 1} ∷ []) $ free1 !" for cell in reversed(cells)),
+            "closing": ")" * (count + 8),
+            "spells": nested(["ptr-vals"] + [p.spells() for p in P]),
+            "tells": nested(["mut-tells (named 0) (κs .0) T.the-row"] + [p.tells() for p in P]),
+            "given": given + "".join(p.given(i) for i, p in enumerate(P, 1)),
+            "given rooms": each(self.slices, lambda p: f" (are{path(1 + P.index(p))} .0 .1)"),
+        }
+
+    def text(self):
+        """The template filled in; a place that is a number and a local is where that local then stands."""
+        places = self.places()
+
+        def fill(found):
+            place = found[1]
+            number, _, local = place.partition(" ")
+            return str(self.at(int(number), local)) if number.isdigit() else places[place]
+
+        template = open(TEMPLATE, encoding="utf-8").read()
+        if not self.refs:
+            template = template.replace("«references»\n", "")
+        if not self.written:
+            template = re.sub(r" *-- what is written to.*\n *«lent on»\n", "", template)
+        head, body = template.split("«uses»\n")
+        body = re.sub(r"«([^»]+)»", fill, body)
+        words = set(re.findall(r"[^\s()\[\]{},]+", re.sub(r"^use .*$", "", body, flags=re.M)))
+        uses = []
+        for module, names in [*PLAIN.items(), ("Rattle.board.proofs.InPlace", shared_names())]:
+            used = [name for name in names if name.strip("_") in words or name == "[]"]
+            if used:
+                uses.append(f"use {module}.{{{', '.join(used)}}}")
+        whole = re.sub(r"«([^»]+)»", fill, head) + "\n".join(uses + self.uses) + "\n" + body
+        return "\n".join(part for line in whole.split("\n") for part in broken(line))
+
+
+def shared_names():
+    """What a proof may take from the file that they share: what that file hands on, and what it declares."""
+    text = open(SHARED, encoding="utf-8").read()
+    handed_on = re.findall(r"^(?:unfoldable )?pub use \S+\.\{(.*)\}$", text, re.M)
+    return [name for names in handed_on for name in names.split(", ")] + re.findall(r"^(?:abbrev )?pub ([\w′-]+) :", text, re.M)
+
+
+# ---- the source
+
+ROUTINE = re.compile(
+    r'pub extern "C" fn (she_\w+)\(\s*device: &mut Device,?([^)]*)\) -> u8\s+ensures \{ λ r\. ⌜ (.*) ⌝ \}\s+\{'
+    r"\s+let before = \*device;\s+let reply = ([\w:]+)\(\s*before,?([^)]*)\);"
+    r"\s+\*device = reply\.device;\s+reply\.answer\s+\}")
+
+
+def listed(text):
+    return [item.strip() for item in text.split(",") if item.strip()]
+
+
+def said_by_the_command(promise):
+    """What the command promises of its reply, from what the routine promises of the record: the same definition."""
+    says = promise.replace("outcome r (now (device .exit))", "outcome (r .answer) (r .device)")
+    says = says.replace("(now (device .entry))", "h")
+    says = re.sub(r"\(now \((\w+) \.entry\)\)", r"\1", says)
+    return re.sub(r"\(now \((\w+) \.exit\)\)|now \((\w+) \.exit\)", lambda m: (m[1] or m[2]) + "′", says)
+
+
 def routines(source):
     """The routines that take the record in place, as the source has them."""
-    named = {}
+    home = {}
     for module, names in re.findall(r"^ghost use ([^{]+)\.\{(.*)\};$", source, re.M):
-        for name in names.split(", "):
-            named[name] = module
-    shape = re.compile(
-        r'pub extern "C" fn (she_\w+)\(\s*device: &mut Device,?([^)]*)\) -> u8\s+ensures \{ λ r\. ⌜ (.*) ⌝ \}\s+\{'
-        r"\s+let before = \*device;\s+let reply = ([\w:]+)\(\s*before,?([^)]*)\);\s+\*device = reply\.device;\s+reply\.answer\s+\}")
-    for name, parameters, promise, command, passed in shape.findall(source):
-        pairs = [item.strip().split(": ") for item in parameters.split(",") if item.strip()]
-        assert [item.strip() for item in passed.split(",") if item.strip()] == [n for n, _ in pairs], name
-        found, lifetime = [], 0
+        home.update({name: module for name in names.split(", ")})
+    found = ROUTINE.findall(source)
+    declared = re.findall(r"fn (she_\w+)\(\s*device: &mut Device", source)
+    assert declared == [routine[0] for routine in found], "a routine has another body"
+    for name, parameters, promise, command, passed in found:
+        pairs = [item.split(": ") for item in listed(parameters)]
+        assert listed(passed) == [n for n, _ in pairs], f"{name} passes something else on"
+        taken, lifetime = [], 0
         for n, kind in pairs:
             lifetime += kind.startswith("&")
-            found.append(Parameter(n, KINDS[kind], lifetime))
-        says = promise.replace("outcome r (now (device .exit))", "outcome (r .answer) (r .device)").replace("(now (device .entry))", "h")
-        says = re.sub(r"\(now \((\w+) \.entry\)\)", r"\1", says)
-        says = re.sub(r"\(now \((\w+) \.exit\)\)|now \((\w+) \.exit\)", lambda m: (m.group(1) or m.group(2)) + "′", says)
-        used = [word for word in re.findall(r"[A-Za-z]+", promise) if word in named]
-        uses = sorted({f"use {named[word]}.{{{', '.join(sorted({w for w in used if named[w] == named[word]}, key=used.index))}}}" for word in used})
-        yield Routine(name, found, command, says, uses)
-    declared = re.findall(r"fn (she_\w+)\(\s*device: &mut Device", source)
-    assert declared == [found[0] for found in shape.findall(source)], "a routine has another body"
+            taken.append(Parameter(n, KINDS[kind], lifetime))
+        cited = {}
+        for word in re.findall(r"[A-Za-z]+", promise):
+            if word in home and word not in cited.setdefault(home[word], []):
+                cited[home[word]].append(word)
+        uses = sorted(f"use {module}.{{{', '.join(names)}}}" for module, names in cited.items())
+        yield Routine(name, taken, command, said_by_the_command(promise), uses)
 
 
 def main():
@@ -463,4 +473,5 @@ def main():
     sys.exit(1 if stale else 0)
 
 
-main()
+if __name__ == "__main__":
+    main()

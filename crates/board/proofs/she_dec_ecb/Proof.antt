@@ -36,8 +36,8 @@ abbrev Says : Device → ℕ → List ℕ → List ℕ → Reply → List ℕ �
 Says h slot input output r output′ = outcome (r .answer) (r .device) 0 (output′ ∷ []) ≡ decEcb h slot input output
 
 -- the contract that the proof cites
-abbrev Core : {M : Type 1} (𝓤 : URA M) (H : Heap 𝓤) (A : Atoms 𝓤) (at-mem : Memory → SProp 𝓤) (run : Routine → Fun 𝓤) →
-    Contract 𝓤
+abbrev Core : {M : Type 1} (𝓤 : URA M) (H : Heap 𝓤) (A : Atoms 𝓤) (at-mem : Memory → SProp 𝓤) (run : Routine → Fun 𝓤)
+    → Contract 𝓤
 Core 𝓤 H A at-mem run = tripleOf 𝓤 H A g.signature (g.spec 𝓤 H A at-mem run)
 
 module _ {M : Type 1} (𝓤 : URA M) (H : Heap 𝓤) (A : Atoms 𝓤) (W : Given 𝓤 H A) (at-mem : Memory → SProp 𝓤)
@@ -75,6 +75,7 @@ module _ {M : Type 1} (𝓤 : URA M) (H : Heap 𝓤) (A : Atoms 𝓤) (W : Given
   abbrev Kept : Fml
   Kept = fsep (ShrSlice (named 1) κinput u8 .own ref-input (val-input ∷ [])) (ftrue)
 
+  -- the caller has what the command asks, and keeps what it keeps
   asked : ent 𝓤
       (⋆ 𝓤 H A ((‵ (flft κinput qinput) ⊛ ‵ (flft κoutput qoutput) ⊛ ‵ ftrue) ∷ ‵ (owns (T.the-row ∷ u32 ∷ ShrSlice (named 0) κinput u8 ∷ MutSlice (named 1) κoutput u8 ∷ []) (h, (slot, (ref-input, (ref-output, tt)))) (vals h, (vint w32 slot ∷ [], (val-input ∷ [], (val-output ∷ [], tt))))) ∷ []))
       (Core 𝓤 H A at-mem run .pre to)
@@ -85,7 +86,9 @@ module _ {M : Type 1} (𝓤 : URA M) (H : Heap 𝓤) (A : Atoms 𝓤) (W : Given
       (⋆ 𝓤 H A ((‵ (flft κinput qinput) ⊛ ‵ (flft κoutput qoutput) ⊛ ‵ ftrue) ∷ ‵ (owns (u32 ∷ ShrSlice (named 1) κinput u8 ∷ MutSlice (named 2) κoutput u8 ∷ []) (passed .1) (at-entry .1)) ∷ []))
       (sep 𝓤 (Core 𝓤 H A at-mem run .pre to) (sem 𝓤 H A Kept))
   apart was =
-      qed W ((‵ (flft κinput qinput) ⊛ ‵ (flft κoutput qoutput) ⊛ ‵ ftrue) ∷ ‵ (owns (u32 ∷ ShrSlice (named 1) κinput u8 ∷ MutSlice (named 2) κoutput u8 ∷ []) (passed .1) (at-entry .1)) ∷ []) ∵
+      qed W
+      ((‵ (flft κinput qinput) ⊛ ‵ (flft κoutput qoutput) ⊛ ‵ ftrue) ∷ ‵ (owns (u32 ∷ ShrSlice (named 1) κinput u8 ∷ MutSlice (named 2) κoutput u8 ∷ []) (passed .1) (at-entry .1)) ∷ [])
+      ∵
       move ! (1 ∷ []) $ fsplit ! $ move ! (1 ∷ []) $ fsplit ! $
       use1 W (‵ (ShrSlice (named 1) κinput u8 .own ref-input (val-input ∷ [])) ⊛ ‵ (ShrSlice (named 1) κinput u8 .own ref-input (val-input ∷ []))) (shr-slice-copy 𝓤 H A W (named 1) κinput u8 .twice ref-input (val-input ∷ [])) $
       split ! $ move ! (2 ∷ []) $ fsplit ! $ move ! (1 ∷ []) $ move ! (3 ∷ 0 ∷ []) $ fjoin ! $ nothing ! $
@@ -93,12 +96,16 @@ module _ {M : Type 1} (𝓤 : URA M) (H : Heap 𝓤) (A : Atoms 𝓤) (W : Given
       owned ! T.the-row (Is T.the-row) (LL.makes T.the-type T′.the-plain 𝓤 H A) h _ was $ fjoin ! $ move ! (2 ∷ 0 ∷ []) $
       use2 W (raw (Core 𝓤 H A at-mem run .pre to)) asked $ frame ! $ done !
 
+  -- what there is at the end is what is owed
   exits : (r : Reply) (zs : Lasts g.ended (κinput, (κoutput, tt)) (h, (slot, (ref-input, (ref-output, tt))))) → Says h slot
-      input output r (zs .1 .1 .1 .0) → r .answer < 2 ^ 8 → ent 𝓤
+      input output r (zs .1 .1 .1 .0) → r .answer < 2 ^ 8
+      → ent 𝓤
       (⋆ 𝓤 H A (‵ (fobs γ (T.the-row .coded .code (r .device))) ∷ ‵ (fbor κ (Body (mem T.the-row) b o γ)) ∷ ‵ (flft κ q) ∷ (‵ (flft κinput qinput) ⊛ ‵ (flft κoutput qoutput) ⊛ ‵ ftrue) ∷ ‵ (lasts g.ended (κinput, (κoutput, tt)) (h, (slot, (ref-input, (ref-output, tt)))) zs) ∷ ‵ Kept ∷ []))
       (Post (vint w8 (r .answer)))
   exits r zs e fits =
-      qed W (‵ (fobs γ (T.the-row .coded .code (r .device))) ∷ ‵ (fbor κ (Body (mem T.the-row) b o γ)) ∷ ‵ (flft κ q) ∷ (‵ (flft κinput qinput) ⊛ ‵ (flft κoutput qoutput) ⊛ ‵ ftrue) ∷ ‵ (lasts g.ended (κinput, (κoutput, tt)) (h, (slot, (ref-input, (ref-output, tt)))) zs) ∷ ‵ Kept ∷ []) ∵
+      qed W
+      (‵ (fobs γ (T.the-row .coded .code (r .device))) ∷ ‵ (fbor κ (Body (mem T.the-row) b o γ)) ∷ ‵ (flft κ q) ∷ (‵ (flft κinput qinput) ⊛ ‵ (flft κoutput qoutput) ⊛ ‵ ftrue) ∷ ‵ (lasts g.ended (κinput, (κoutput, tt)) (h, (slot, (ref-input, (ref-output, tt)))) zs) ∷ ‵ Kept ∷ [])
+      ∵
       move ! (4 ∷ []) $ fsplit ! $ drop ! $ fsplit ! $ drop ! $ fsplit ! $ drop ! $ fsplit ! $ fsplit ! $ move ! (1 ∷ []) $
       feqL ! (λ loutput. move ! (1 ∷ []) $ drop ! $
       suffices ! _ (ends-at 𝓤 H A f.ended stayed (f.clauses 𝓤 H A at-mem run) W (((κ, (κinput, (κoutput, tt))), (q, (qinput, (qoutput, tt))), tt, passed, at-entry), tt) (vint w8 (r .answer)) (r .answer) (r .device, (tt, (tt, (zs .1 .1 .1 .0, tt)))) (tt, (tt, (tt, (loutput, tt))))) $
@@ -112,17 +119,23 @@ module _ {M : Type 1} (𝓤 : URA M) (H : Heap 𝓤) (A : Atoms 𝓤) (W : Given
         (onEntry 𝓤 H A f.signature (κ, (κinput, (κoutput, tt))) (q, (qinput, (qoutput, tt))) passed at-entry)
         (WpFn 𝓤 H C Λ code.function (vptr b o ∷ vint w32 slot ∷ val-input ∷ val-output ∷ []) Post)
     walk room-input room-output =
-        qed W ((‵ (flft κ q) ⊛ ‵ (flft κinput qinput) ⊛ ‵ (flft κoutput qoutput) ⊛ ‵ ftrue) ∷ ‵ (owns (MutRef (named 0) κ T.the-row ∷ u32 ∷ ShrSlice (named 1) κinput u8 ∷ MutSlice (named 2) κoutput u8 ∷ []) passed at-entry) ∷ []) ∵
+        qed W
+        ((‵ (flft κ q) ⊛ ‵ (flft κinput qinput) ⊛ ‵ (flft κoutput qoutput) ⊛ ‵ ftrue) ∷ ‵ (owns (MutRef (named 0) κ T.the-row ∷ u32 ∷ ShrSlice (named 1) κinput u8 ∷ MutSlice (named 2) κoutput u8 ∷ []) passed at-entry) ∷ [])
+        ∵
         split ! $ move ! (2 ∷ []) $ fsplit ! $ fsplit3 ! $ drop ! $ move ! (0 ∷ 1 ∷ 3 ∷ []) $
         enter ! C Λ code.function (vptr b o ∷ vint w32 slot ∷ val-input ∷ val-output ∷ []) _ $
         alloc1 ! (λ l0. alloc1 ! (λ l1. alloc1 ! (λ l2. alloc1 ! (λ l3. alloc1 ! (λ l4. alloc1 ! (λ l5. alloc1 ! (λ l6. alloc1 ! (λ l7. alloc1 ! (λ l8. alloc0 ! $
-        params1 ! $ pass1 ! (init ! 14 refl (tt, tt)) $ pass1 ! (init ! 12 refl (tt, record { fits = fits-slot })) $
+        params1 ! $
+        pass1 ! (init ! 14 refl (tt, tt)) $ pass1 ! (init ! 12 refl (tt, record { fits = fits-slot })) $
         pass1 ! (init ! 10 refl (tt, (tt, (record { fits = room-input .0 }, tt)))) $
         pass1 ! (init ! 8 refl (tt, (tt, (record { fits = room-output .0 }, tt)))) $ pass0 ! $
         -- let before = *device
         move ! (18 ∷ 19 ∷ 20 ∷ []) $
-        opens ! tt T.the-row {h = h} b o (λ vs. spelt ! T.the-row (Is T.the-row) (shows 𝓤 H A T.the-row) vals (LL.tells T.the-type T′.the-laws) fullShare h vs b o $
-        move ! (1 ∷ []) $ peeks ! T.the-row (Is T.the-row) (shows 𝓤 H A T.the-row) h (vals h) (λ was. move ! (1 ∷ 0 ∷ []) $
+        opens ! tt T.the-row {h = h} b o (λ vs.
+        spelt ! T.the-row (Is T.the-row) (shows 𝓤 H A T.the-row) vals (LL.tells T.the-type T′.the-laws) fullShare h vs b o $
+        move ! (1 ∷ []) $
+        peeks ! T.the-row (Is T.the-row) (shows 𝓤 H A T.the-row) h (vals h) (λ was.
+        move ! (1 ∷ 0 ∷ []) $
         assigns ! (of-opd ! (load ! (from ! (hop ! (look ! 19 refl) (stop !))) (look-raw ! 0 refl))) (from ! (stop !))
         (init ! 11 refl (LL.lawful T.the-type T′.the-laws 𝓤 H A W .typed h _ was .0)) $
         -- what is written to is lent on
@@ -136,13 +149,19 @@ module _ {M : Type 1} (𝓤 : URA M) (H : Heap 𝓤) (A : Atoms 𝓤) (W : Given
         calls-at ! fm (Core 𝓤 H A at-mem run) known to
         (and-then ! (load ! (from ! (stop !)) (look ! 13 refl)) (and-then ! (load ! (from ! (stop !)) (look ! 19 refl)) (and-then ! (load ! (from ! (stop !)) (look ! 17 refl)) (and-then ! (load ! (from ! (stop !)) (look ! 7 refl)) (no-more !)))))
         (λ v.
-        use1 W (later (some (λ (r : Reply). ((‵ (flft κinput qinput) ⊛ ‵ (flft κoutput qoutput) ⊛ ‵ ftrue) ⊛ ‵ (O.the-row .own r (v ∷ []))) ⊛ raw (ensured 𝓤 H A g.ended (g.clauses 𝓤 H A at-mem run) (κinput, (κoutput, tt)) (h, (slot, (ref-input, (ref-output, tt)))) tt r)))) (id⊢ 𝓤 _) $
-        await ! tt $ pick ! (λ r.
+        use1 W
+        (later (some (λ (r : Reply). ((‵ (flft κinput qinput) ⊛ ‵ (flft κoutput qoutput) ⊛ ‵ ftrue) ⊛ ‵ (O.the-row .own r (v ∷ []))) ⊛ raw (ensured 𝓤 H A g.ended (g.clauses 𝓤 H A at-mem run) (κinput, (κoutput, tt)) (h, (slot, (ref-input, (ref-output, tt)))) tt r))))
+        (id⊢ 𝓤 _) $
+        await ! tt $
+        pick ! (λ r.
         split ! $ move ! (1 ∷ []) $
-        use1 W (some (λ (zs : Lasts g.ended (κinput, (κoutput, tt)) (h, (slot, (ref-input, (ref-output, tt))))). ‵ (lasts g.ended (κinput, (κoutput, tt)) (h, (slot, (ref-input, (ref-output, tt)))) zs) ⊛ raw (fact 𝓤 (Says h slot input output r (zs .1 .1 .1 .0))))) (id⊢ 𝓤 _) $
+        use1 W
+        (some (λ (zs : Lasts g.ended (κinput, (κoutput, tt)) (h, (slot, (ref-input, (ref-output, tt))))). ‵ (lasts g.ended (κinput, (κoutput, tt)) (h, (slot, (ref-input, (ref-output, tt)))) zs) ⊛ raw (fact 𝓤 (Says h slot input output r (zs .1 .1 .1 .0)))))
+        (id⊢ 𝓤 _) $
         pick ! (λ zs.
-        split ! $ move ! (1 ∷ []) $ heard ! (Says h slot input output r (zs .1 .1 .1 .0)) (λ e. move ! (1 ∷ []) $ split ! $
-        move ! (1 ∷ []) $
+        split ! $ move ! (1 ∷ []) $
+        heard ! (Says h slot input output r (zs .1 .1 .1 .0)) (λ e.
+        move ! (1 ∷ []) $ split ! $ move ! (1 ∷ []) $
         peeks ! O.the-row (Is O.the-row) (shows 𝓤 H A O.the-row) r (v ∷ []) (λ is.
         land ! (from ! (stop !)) (init ! 13 refl (LL.lawful O.the-type O′.the-laws 𝓤 H A W .typed r _ is .0)) $
         rewrite ! 13 (λ (u : Val). ‵ (fat fullShare O′.mir l6 0 u)) (ap only (LL.tells O.the-type O′.the-laws r _ is)) refl $
@@ -155,6 +174,7 @@ module _ {M : Type 1} (𝓤 : URA M) (H : Heap 𝓤) (A : Atoms 𝓤) (W : Given
         drop ! $ move ! (4 ∷ []) $ drop ! $
         owned ! T.the-row (Is T.the-row) (LL.makes T.the-type T′.the-plain 𝓤 H A) (r .device) _ (device-is r v is) $
         move ! (4 ∷ 0 ∷ 5 ∷ 6 ∷ 7 ∷ []) $ closes ! tt T.the-row (r .device) (vals (r .device)) b o $
+        -- the locals end
         returns ! (look ! 22 refl) $ forget ! 6 refl $ forget ! 8 refl $ forget ! 10 refl $ forget ! 12 refl $
         forget ! 14 refl $ forget ! 16 refl $ forget ! 18 refl $ forget ! 20 refl $ forget ! 22 refl $
         move ! (22 ∷ 23 ∷ []) $ free1 ! $ move ! (20 ∷ 21 ∷ []) $ free1 ! $ move ! (18 ∷ 19 ∷ []) $ free1 ! $
@@ -164,10 +184,11 @@ module _ {M : Type 1} (𝓤 : URA M) (H : Heap 𝓤) (A : Atoms 𝓤) (W : Given
 
 module _ {M : Type 1} (𝓤 : URA M) (H : Heap 𝓤) (A : Atoms 𝓤) (W : Given 𝓤 H A) (at-mem : Memory → SProp 𝓤)
     (run : Routine → Fun 𝓤) where
-  walks : (C : Calls 𝓤 H) (Λ : Loops 𝓤 H) → FmC 𝓤 H (W .laws) C → Triple 𝓤 (C #g) (Core 𝓤 H A at-mem run) → Walks 𝓤 H A
-      f.ended stayed (WpFn 𝓤 H C Λ code.function) (f.clauses 𝓤 H A at-mem run)
-  walks C Λ fm known = walked 𝓤 H A f.ended stayed (f.clauses 𝓤 H A at-mem run) (WpFn 𝓤 H C Λ code.function) (λ κs.
-      (ptr-vals, (uint-vals w32, (slice-vals, (slice-vals, tt))))) (λ κs.
+  walks : (C : Calls 𝓤 H) (Λ : Loops 𝓤 H) → FmC 𝓤 H (W .laws) C → Triple 𝓤 (C #g) (Core 𝓤 H A at-mem run)
+      → Walks 𝓤 H A f.ended stayed (WpFn 𝓤 H C Λ code.function) (f.clauses 𝓤 H A at-mem run)
+  walks C Λ fm known = walked 𝓤 H A f.ended stayed (f.clauses 𝓤 H A at-mem run) (WpFn 𝓤 H C Λ code.function)
+      (λ κs. (ptr-vals, (uint-vals w32, (slice-vals, (slice-vals, tt)))))
+      (λ κs.
       (mut-tells (named 0) (κs .0) T.the-row, (uint-tells w32, (shr-slice-tells (named 1) (κs .1 .0) u8, (mut-slice-tells (named 2) (κs .1 .1 .0) u8, tt)))))
       (λ κs qs bounds a _ are. via 𝓤 _ (fst∗ 𝓤 _ (emp 𝓤))
       (walk 𝓤 H A W at-mem run (κs .0) (qs .0) (a .0 .ptr .0) (a .0 .ptr .1) (a .0 .name) (a .0 .now) (a .1 .0) (are .1 .0 .1) (κs .1 .0) (qs .1 .0) (a .1 .1 .0 .ptr .0) (a .1 .1 .0 .ptr .1) (a .1 .1 .0 .name) (a .1 .1 .0 .now) (κs .1 .1 .0) (qs .1 .1 .0) (a .1 .1 .1 .0 .ptr .0) (a .1 .1 .1 .0 .ptr .1) (a .1 .1 .1 .0 .name) (a .1 .1 .1 .0 .now) C Λ fm known (are .1 .1 .0 .0 .1) (are .1 .1 .1 .0 .0 .1)))
@@ -177,14 +198,17 @@ module _ {M : Type 1} (𝓤 : URA M) (H : Heap 𝓤) (A : Atoms 𝓤) (W : Given
       (goes-ref 𝓤 H A W 3 0 tt (plain (λ _. T.the-row)), (goes-none 𝓤 H A W 3 (λ _. u32) yes (λ κs x f. refl), (goes-none-slice 𝓤 H A W 3 (1 ∷ []) tt (plain (λ _. u8)) yes, (goes-gave-slice 𝓤 H A W 3 2 tt (plain (λ _. u8)), tt))))
 
 meets : {M : Type 1} (𝓤 : URA M) (H : Heap 𝓤) (A : Atoms 𝓤) → Given 𝓤 H A → (at-mem : Memory → SProp 𝓤)
-    (run : Routine → Fun 𝓤) (𝓣 : Tables 𝓤 H) → Triple 𝓤 (𝓣 .C #g) (Core 𝓤 H A at-mem run) → Meets 𝓤 H A f.signature
-    (WpFn 𝓤 H (𝓣 .C) (𝓣 .Λ) code.function) (f.spec 𝓤 H A at-mem run)
-meets 𝓤 H A W at-mem run 𝓣 known = walk-meets 𝓤 H A f.ended stayed W (goes 𝓤 H A W at-mem run) (f.clauses 𝓤 H A at-mem run)
+    (run : Routine → Fun 𝓤) (𝓣 : Tables 𝓤 H) → Triple 𝓤 (𝓣 .C #g) (Core 𝓤 H A at-mem run)
+    → Meets 𝓤 H A f.signature (WpFn 𝓤 H (𝓣 .C) (𝓣 .Λ) code.function) (f.spec 𝓤 H A at-mem run)
+meets 𝓤 H A W at-mem run 𝓣 known =
+    walk-meets 𝓤 H A f.ended stayed W (goes 𝓤 H A W at-mem run) (f.clauses 𝓤 H A at-mem run)
     (WpFn 𝓤 H (𝓣 .C) (𝓣 .Λ) code.function) (WpFn-mono 𝓤 H (W .laws) 𝓣 code.function)
     (walks 𝓤 H A W at-mem run (𝓣 .C) (𝓣 .Λ) (fmOf 𝓤 H (W .laws) 𝓣) known)
 
 pub she-dec-ecb-spec : {M : Type 1} → stated.statement M
 unfolding code.routine tablesOf
-she-dec-ecb-spec 𝓤 H 𝓜 𝓖 𝓡 = entered 𝓤 H (tripleOf 𝓤 H (𝓖 .A) f.signature (f.spec 𝓤 H (𝓖 .A) (𝓜 .mem) (𝓡 .run)))
+she-dec-ecb-spec 𝓤 H 𝓜 𝓖 𝓡 =
+    entered 𝓤 H (tripleOf 𝓤 H (𝓖 .A) f.signature (f.spec 𝓤 H (𝓖 .A) (𝓜 .mem) (𝓡 .run)))
     (tables 𝓤 H 𝓜 𝓡 code.env .C) (tables 𝓤 H 𝓜 𝓡 code.env .Λ) #f code.function (code.unfolded 𝓤 H 𝓜 𝓡)
-    (meets 𝓤 H (𝓖 .A) (givenOf 𝓤 H 𝓜 𝓖) (𝓜 .mem) (𝓡 .run) (tablesOf 𝓤 H 𝓜 (tables 𝓤 H 𝓜 𝓡 code.env)) (cited 𝓤 H (Core 𝓤 H (𝓖 .A) (𝓜 .mem) (𝓡 .run)) 𝓜 𝓡 code.env #g g-def.routine code.calls-board·dec-ecb (g-thm.met 𝓤 H 𝓜 𝓖 𝓡)))
+    (meets 𝓤 H (𝓖 .A) (givenOf 𝓤 H 𝓜 𝓖) (𝓜 .mem) (𝓡 .run) (tablesOf 𝓤 H 𝓜 (tables 𝓤 H 𝓜 𝓡 code.env))
+    (cited 𝓤 H (Core 𝓤 H (𝓖 .A) (𝓜 .mem) (𝓡 .run)) 𝓜 𝓡 code.env #g g-def.routine code.calls-board·dec-ecb (g-thm.met 𝓤 H 𝓜 𝓖 𝓡)))

@@ -39,8 +39,8 @@ Says h m1 m2 m3 m4 m5 r m1′ m2′ m3′ m4′ m5′ = outcome (r .answer) (r .
     exportRamKey flagCount h m1 m2 m3 m4 m5
 
 -- the contract that the proof cites
-abbrev Core : {M : Type 1} (𝓤 : URA M) (H : Heap 𝓤) (A : Atoms 𝓤) (at-mem : Memory → SProp 𝓤) (run : Routine → Fun 𝓤) →
-    Contract 𝓤
+abbrev Core : {M : Type 1} (𝓤 : URA M) (H : Heap 𝓤) (A : Atoms 𝓤) (at-mem : Memory → SProp 𝓤) (run : Routine → Fun 𝓤)
+    → Contract 𝓤
 Core 𝓤 H A at-mem run = tripleOf 𝓤 H A g.signature (g.spec 𝓤 H A at-mem run)
 
 module _ {M : Type 1} (𝓤 : URA M) (H : Heap 𝓤) (A : Atoms 𝓤) (W : Given 𝓤 H A) (at-mem : Memory → SProp 𝓤)
@@ -97,6 +97,7 @@ module _ {M : Type 1} (𝓤 : URA M) (H : Heap 𝓤) (A : Atoms 𝓤) (W : Given
   abbrev Kept : Fml
   Kept = ftrue
 
+  -- the caller has what the command asks, and keeps what it keeps
   asked : ent 𝓤
       (⋆ 𝓤 H A ((‵ (flft κm1 qm1) ⊛ ‵ (flft κm2 qm2) ⊛ ‵ (flft κm3 qm3) ⊛ ‵ (flft κm4 qm4) ⊛ ‵ (flft κm5 qm5) ⊛ ‵ ftrue) ∷ ‵ (owns (T.the-row ∷ MutSlice (named 0) κm1 u8 ∷ MutSlice (named 1) κm2 u8 ∷ MutSlice (named 2) κm3 u8 ∷ MutSlice (named 3) κm4 u8 ∷ MutSlice (named 4) κm5 u8 ∷ []) (h, (ref-m1, (ref-m2, (ref-m3, (ref-m4, (ref-m5, tt)))))) (vals h, (val-m1 ∷ [], (val-m2 ∷ [], (val-m3 ∷ [], (val-m4 ∷ [], (val-m5 ∷ [], tt))))))) ∷ []))
       (Core 𝓤 H A at-mem run .pre to)
@@ -107,21 +108,27 @@ module _ {M : Type 1} (𝓤 : URA M) (H : Heap 𝓤) (A : Atoms 𝓤) (W : Given
       (⋆ 𝓤 H A ((‵ (flft κm1 qm1) ⊛ ‵ (flft κm2 qm2) ⊛ ‵ (flft κm3 qm3) ⊛ ‵ (flft κm4 qm4) ⊛ ‵ (flft κm5 qm5) ⊛ ‵ ftrue) ∷ ‵ (owns (MutSlice (named 1) κm1 u8 ∷ MutSlice (named 2) κm2 u8 ∷ MutSlice (named 3) κm3 u8 ∷ MutSlice (named 4) κm4 u8 ∷ MutSlice (named 5) κm5 u8 ∷ []) (passed .1) (at-entry .1)) ∷ []))
       (sep 𝓤 (Core 𝓤 H A at-mem run .pre to) (sem 𝓤 H A Kept))
   apart was =
-      qed W ((‵ (flft κm1 qm1) ⊛ ‵ (flft κm2 qm2) ⊛ ‵ (flft κm3 qm3) ⊛ ‵ (flft κm4 qm4) ⊛ ‵ (flft κm5 qm5) ⊛ ‵ ftrue) ∷ ‵ (owns (MutSlice (named 1) κm1 u8 ∷ MutSlice (named 2) κm2 u8 ∷ MutSlice (named 3) κm3 u8 ∷ MutSlice (named 4) κm4 u8 ∷ MutSlice (named 5) κm5 u8 ∷ []) (passed .1) (at-entry .1)) ∷ []) ∵
+      qed W
+      ((‵ (flft κm1 qm1) ⊛ ‵ (flft κm2 qm2) ⊛ ‵ (flft κm3 qm3) ⊛ ‵ (flft κm4 qm4) ⊛ ‵ (flft κm5 qm5) ⊛ ‵ ftrue) ∷ ‵ (owns (MutSlice (named 1) κm1 u8 ∷ MutSlice (named 2) κm2 u8 ∷ MutSlice (named 3) κm3 u8 ∷ MutSlice (named 4) κm4 u8 ∷ MutSlice (named 5) κm5 u8 ∷ []) (passed .1) (at-entry .1)) ∷ [])
+      ∵
       move ! (1 ∷ []) $ fsplit ! $ move ! (1 ∷ []) $ fsplit ! $ move ! (1 ∷ []) $ fsplit ! $ move ! (1 ∷ []) $ fsplit ! $
       move ! (1 ∷ []) $ fsplit ! $ move ! (1 ∷ []) $ nothing ! $ move ! (2 ∷ 0 ∷ []) $ fjoin ! $ move ! (2 ∷ 0 ∷ []) $
       fjoin ! $ move ! (2 ∷ 0 ∷ []) $ fjoin ! $ move ! (2 ∷ 0 ∷ []) $ fjoin ! $ move ! (2 ∷ 0 ∷ []) $ fjoin ! $
       owned ! T.the-row (Is T.the-row) (LL.makes T.the-type T′.the-plain 𝓤 H A) h _ was $ fjoin ! $ move ! (2 ∷ 0 ∷ []) $
       use2 W (raw (Core 𝓤 H A at-mem run .pre to)) asked $ frame ! $ done !
 
+  -- what there is at the end is what is owed
   exits : (r : Reply)
       (zs : Lasts g.ended (κm1, (κm2, (κm3, (κm4, (κm5, tt))))) (h, (ref-m1, (ref-m2, (ref-m3, (ref-m4, (ref-m5, tt))))))) →
       Says h m1 m2 m3 m4 m5 r (zs .1 .0) (zs .1 .1 .0) (zs .1 .1 .1 .0) (zs .1 .1 .1 .1 .0) (zs .1 .1 .1 .1 .1 .0) → r .answer
-      < 2 ^ 8 → ent 𝓤
+      < 2 ^ 8
+      → ent 𝓤
       (⋆ 𝓤 H A (‵ (fobs γ (T.the-row .coded .code (r .device))) ∷ ‵ (fbor κ (Body (mem T.the-row) b o γ)) ∷ ‵ (flft κ q) ∷ (‵ (flft κm1 qm1) ⊛ ‵ (flft κm2 qm2) ⊛ ‵ (flft κm3 qm3) ⊛ ‵ (flft κm4 qm4) ⊛ ‵ (flft κm5 qm5) ⊛ ‵ ftrue) ∷ ‵ (lasts g.ended (κm1, (κm2, (κm3, (κm4, (κm5, tt))))) (h, (ref-m1, (ref-m2, (ref-m3, (ref-m4, (ref-m5, tt)))))) zs) ∷ ‵ Kept ∷ []))
       (Post (vint w8 (r .answer)))
   exits r zs e fits =
-      qed W (‵ (fobs γ (T.the-row .coded .code (r .device))) ∷ ‵ (fbor κ (Body (mem T.the-row) b o γ)) ∷ ‵ (flft κ q) ∷ (‵ (flft κm1 qm1) ⊛ ‵ (flft κm2 qm2) ⊛ ‵ (flft κm3 qm3) ⊛ ‵ (flft κm4 qm4) ⊛ ‵ (flft κm5 qm5) ⊛ ‵ ftrue) ∷ ‵ (lasts g.ended (κm1, (κm2, (κm3, (κm4, (κm5, tt))))) (h, (ref-m1, (ref-m2, (ref-m3, (ref-m4, (ref-m5, tt)))))) zs) ∷ ‵ Kept ∷ []) ∵
+      qed W
+      (‵ (fobs γ (T.the-row .coded .code (r .device))) ∷ ‵ (fbor κ (Body (mem T.the-row) b o γ)) ∷ ‵ (flft κ q) ∷ (‵ (flft κm1 qm1) ⊛ ‵ (flft κm2 qm2) ⊛ ‵ (flft κm3 qm3) ⊛ ‵ (flft κm4 qm4) ⊛ ‵ (flft κm5 qm5) ⊛ ‵ ftrue) ∷ ‵ (lasts g.ended (κm1, (κm2, (κm3, (κm4, (κm5, tt))))) (h, (ref-m1, (ref-m2, (ref-m3, (ref-m4, (ref-m5, tt)))))) zs) ∷ ‵ Kept ∷ [])
+      ∵
       move ! (4 ∷ []) $ fsplit ! $ drop ! $ fsplit ! $ fsplit ! $ move ! (1 ∷ []) $ feqL ! (λ lm1. move ! (1 ∷ []) $
       fsplit ! $ fsplit ! $ move ! (1 ∷ []) $ feqL ! (λ lm2. move ! (1 ∷ []) $ fsplit ! $ fsplit ! $ move ! (1 ∷ []) $
       feqL ! (λ lm3. move ! (1 ∷ []) $ fsplit ! $ fsplit ! $ move ! (1 ∷ []) $ feqL ! (λ lm4. move ! (1 ∷ []) $ fsplit ! $
@@ -137,20 +144,25 @@ module _ {M : Type 1} (𝓤 : URA M) (H : Heap 𝓤) (A : Atoms 𝓤) (W : Given
         (onEntry 𝓤 H A f.signature (κ, (κm1, (κm2, (κm3, (κm4, (κm5, tt)))))) (q, (qm1, (qm2, (qm3, (qm4, (qm5, tt)))))) passed at-entry)
         (WpFn 𝓤 H C Λ code.function (vptr b o ∷ val-m1 ∷ val-m2 ∷ val-m3 ∷ val-m4 ∷ val-m5 ∷ []) Post)
     walk room-m1 room-m2 room-m3 room-m4 room-m5 =
-        qed W ((‵ (flft κ q) ⊛ ‵ (flft κm1 qm1) ⊛ ‵ (flft κm2 qm2) ⊛ ‵ (flft κm3 qm3) ⊛ ‵ (flft κm4 qm4) ⊛ ‵ (flft κm5 qm5) ⊛ ‵ ftrue) ∷ ‵ (owns (MutRef (named 0) κ T.the-row ∷ MutSlice (named 1) κm1 u8 ∷ MutSlice (named 2) κm2 u8 ∷ MutSlice (named 3) κm3 u8 ∷ MutSlice (named 4) κm4 u8 ∷ MutSlice (named 5) κm5 u8 ∷ []) passed at-entry) ∷ []) ∵
+        qed W
+        ((‵ (flft κ q) ⊛ ‵ (flft κm1 qm1) ⊛ ‵ (flft κm2 qm2) ⊛ ‵ (flft κm3 qm3) ⊛ ‵ (flft κm4 qm4) ⊛ ‵ (flft κm5 qm5) ⊛ ‵ ftrue) ∷ ‵ (owns (MutRef (named 0) κ T.the-row ∷ MutSlice (named 1) κm1 u8 ∷ MutSlice (named 2) κm2 u8 ∷ MutSlice (named 3) κm3 u8 ∷ MutSlice (named 4) κm4 u8 ∷ MutSlice (named 5) κm5 u8 ∷ []) passed at-entry) ∷ [])
+        ∵
         split ! $ move ! (2 ∷ []) $ fsplit ! $ fsplit3 ! $ drop ! $ move ! (0 ∷ 1 ∷ 3 ∷ []) $
         enter ! C Λ code.function (vptr b o ∷ val-m1 ∷ val-m2 ∷ val-m3 ∷ val-m4 ∷ val-m5 ∷ []) _ $
         alloc1 ! (λ l0. alloc1 ! (λ l1. alloc1 ! (λ l2. alloc1 ! (λ l3. alloc1 ! (λ l4. alloc1 ! (λ l5. alloc1 ! (λ l6. alloc1 ! (λ l7. alloc1 ! (λ l8. alloc1 ! (λ l9. alloc1 ! (λ l10. alloc1 ! (λ l11. alloc1 ! (λ l12. alloc1 ! (λ l13. alloc1 ! (λ l14. alloc1 ! (λ l15. alloc1 ! (λ l16. alloc1 ! (λ l17. alloc1 ! (λ l18. alloc0 ! $
-        params1 ! $ pass1 ! (init ! 34 refl (tt, tt)) $
-        pass1 ! (init ! 32 refl (tt, (tt, (record { fits = room-m1 .0 }, tt)))) $
+        params1 ! $
+        pass1 ! (init ! 34 refl (tt, tt)) $ pass1 ! (init ! 32 refl (tt, (tt, (record { fits = room-m1 .0 }, tt)))) $
         pass1 ! (init ! 30 refl (tt, (tt, (record { fits = room-m2 .0 }, tt)))) $
         pass1 ! (init ! 28 refl (tt, (tt, (record { fits = room-m3 .0 }, tt)))) $
         pass1 ! (init ! 26 refl (tt, (tt, (record { fits = room-m4 .0 }, tt)))) $
         pass1 ! (init ! 24 refl (tt, (tt, (record { fits = room-m5 .0 }, tt)))) $ pass0 ! $
         -- let before = *device
         move ! (38 ∷ 39 ∷ 40 ∷ []) $
-        opens ! tt T.the-row {h = h} b o (λ vs. spelt ! T.the-row (Is T.the-row) (shows 𝓤 H A T.the-row) vals (LL.tells T.the-type T′.the-laws) fullShare h vs b o $
-        move ! (1 ∷ []) $ peeks ! T.the-row (Is T.the-row) (shows 𝓤 H A T.the-row) h (vals h) (λ was. move ! (1 ∷ 0 ∷ []) $
+        opens ! tt T.the-row {h = h} b o (λ vs.
+        spelt ! T.the-row (Is T.the-row) (shows 𝓤 H A T.the-row) vals (LL.tells T.the-type T′.the-laws) fullShare h vs b o $
+        move ! (1 ∷ []) $
+        peeks ! T.the-row (Is T.the-row) (shows 𝓤 H A T.the-row) h (vals h) (λ was.
+        move ! (1 ∷ 0 ∷ []) $
         assigns ! (of-opd ! (load ! (from ! (hop ! (look ! 39 refl) (stop !))) (look-raw ! 0 refl))) (from ! (stop !))
         (init ! 27 refl (LL.lawful T.the-type T′.the-laws 𝓤 H A W .typed h _ was .0)) $
         -- what is written to is lent on
@@ -184,14 +196,20 @@ module _ {M : Type 1} (𝓤 : URA M) (H : Heap 𝓤) (A : Atoms 𝓤) (W : Given
         calls-at ! fm (Core 𝓤 H A at-mem run) known to
         (and-then ! (load ! (from ! (stop !)) (look ! 29 refl)) (and-then ! (load ! (from ! (stop !)) (look ! 23 refl)) (and-then ! (load ! (from ! (stop !)) (look ! 19 refl)) (and-then ! (load ! (from ! (stop !)) (look ! 15 refl)) (and-then ! (load ! (from ! (stop !)) (look ! 11 refl)) (and-then ! (load ! (from ! (stop !)) (look ! 7 refl)) (no-more !)))))))
         (λ v.
-        use1 W (later (some (λ (r : Reply). ((‵ (flft κm1 qm1) ⊛ ‵ (flft κm2 qm2) ⊛ ‵ (flft κm3 qm3) ⊛ ‵ (flft κm4 qm4) ⊛ ‵ (flft κm5 qm5) ⊛ ‵ ftrue) ⊛ ‵ (O.the-row .own r (v ∷ []))) ⊛ raw (ensured 𝓤 H A g.ended (g.clauses 𝓤 H A at-mem run) (κm1, (κm2, (κm3, (κm4, (κm5, tt))))) (h, (ref-m1, (ref-m2, (ref-m3, (ref-m4, (ref-m5, tt)))))) tt r)))) (id⊢ 𝓤 _) $
-        await ! tt $ pick ! (λ r.
+        use1 W
+        (later (some (λ (r : Reply). ((‵ (flft κm1 qm1) ⊛ ‵ (flft κm2 qm2) ⊛ ‵ (flft κm3 qm3) ⊛ ‵ (flft κm4 qm4) ⊛ ‵ (flft κm5 qm5) ⊛ ‵ ftrue) ⊛ ‵ (O.the-row .own r (v ∷ []))) ⊛ raw (ensured 𝓤 H A g.ended (g.clauses 𝓤 H A at-mem run) (κm1, (κm2, (κm3, (κm4, (κm5, tt))))) (h, (ref-m1, (ref-m2, (ref-m3, (ref-m4, (ref-m5, tt)))))) tt r))))
+        (id⊢ 𝓤 _) $
+        await ! tt $
+        pick ! (λ r.
         split ! $ move ! (1 ∷ []) $
-        use1 W (some (λ (zs : Lasts g.ended (κm1, (κm2, (κm3, (κm4, (κm5, tt))))) (h, (ref-m1, (ref-m2, (ref-m3, (ref-m4, (ref-m5, tt))))))). ‵ (lasts g.ended (κm1, (κm2, (κm3, (κm4, (κm5, tt))))) (h, (ref-m1, (ref-m2, (ref-m3, (ref-m4, (ref-m5, tt)))))) zs) ⊛ raw (fact 𝓤 (Says h m1 m2 m3 m4 m5 r (zs .1 .0) (zs .1 .1 .0) (zs .1 .1 .1 .0) (zs .1 .1 .1 .1 .0) (zs .1 .1 .1 .1 .1 .0))))) (id⊢ 𝓤 _) $
+        use1 W
+        (some (λ (zs : Lasts g.ended (κm1, (κm2, (κm3, (κm4, (κm5, tt))))) (h, (ref-m1, (ref-m2, (ref-m3, (ref-m4, (ref-m5, tt))))))). ‵ (lasts g.ended (κm1, (κm2, (κm3, (κm4, (κm5, tt))))) (h, (ref-m1, (ref-m2, (ref-m3, (ref-m4, (ref-m5, tt)))))) zs) ⊛ raw (fact 𝓤 (Says h m1 m2 m3 m4 m5 r (zs .1 .0) (zs .1 .1 .0) (zs .1 .1 .1 .0) (zs .1 .1 .1 .1 .0) (zs .1 .1 .1 .1 .1 .0)))))
+        (id⊢ 𝓤 _) $
         pick ! (λ zs.
         split ! $ move ! (1 ∷ []) $
-        heard ! (Says h m1 m2 m3 m4 m5 r (zs .1 .0) (zs .1 .1 .0) (zs .1 .1 .1 .0) (zs .1 .1 .1 .1 .0) (zs .1 .1 .1 .1 .1 .0)) (λ e. move ! (1 ∷ []) $
-        split ! $ move ! (1 ∷ []) $
+        heard ! (Says h m1 m2 m3 m4 m5 r (zs .1 .0) (zs .1 .1 .0) (zs .1 .1 .1 .0) (zs .1 .1 .1 .1 .0) (zs .1 .1 .1 .1 .1 .0))
+        (λ e.
+        move ! (1 ∷ []) $ split ! $ move ! (1 ∷ []) $
         peeks ! O.the-row (Is O.the-row) (shows 𝓤 H A O.the-row) r (v ∷ []) (λ is.
         land ! (from ! (stop !)) (init ! 29 refl (LL.lawful O.the-type O′.the-laws 𝓤 H A W .typed r _ is .0)) $
         rewrite ! 29 (λ (u : Val). ‵ (fat fullShare O′.mir l8 0 u)) (ap only (LL.tells O.the-type O′.the-laws r _ is)) refl $
@@ -204,6 +222,7 @@ module _ {M : Type 1} (𝓤 : URA M) (H : Heap 𝓤) (A : Atoms 𝓤) (W : Given
         drop ! $ move ! (4 ∷ []) $ drop ! $
         owned ! T.the-row (Is T.the-row) (LL.makes T.the-type T′.the-plain 𝓤 H A) (r .device) _ (device-is r v is) $
         move ! (4 ∷ 0 ∷ 5 ∷ 6 ∷ 7 ∷ []) $ closes ! tt T.the-row (r .device) (vals (r .device)) b o $
+        -- the locals end
         returns ! (look ! 42 refl) $ forget ! 6 refl $ forget ! 8 refl $ forget ! 10 refl $ forget ! 12 refl $
         forget ! 14 refl $ forget ! 16 refl $ forget ! 18 refl $ forget ! 20 refl $ forget ! 22 refl $ forget ! 24 refl $
         forget ! 26 refl $ forget ! 28 refl $ forget ! 30 refl $ forget ! 32 refl $ forget ! 34 refl $ forget ! 36 refl $
@@ -219,10 +238,11 @@ module _ {M : Type 1} (𝓤 : URA M) (H : Heap 𝓤) (A : Atoms 𝓤) (W : Given
 
 module _ {M : Type 1} (𝓤 : URA M) (H : Heap 𝓤) (A : Atoms 𝓤) (W : Given 𝓤 H A) (at-mem : Memory → SProp 𝓤)
     (run : Routine → Fun 𝓤) where
-  walks : (C : Calls 𝓤 H) (Λ : Loops 𝓤 H) → FmC 𝓤 H (W .laws) C → Triple 𝓤 (C #g) (Core 𝓤 H A at-mem run) → Walks 𝓤 H A
-      f.ended stayed (WpFn 𝓤 H C Λ code.function) (f.clauses 𝓤 H A at-mem run)
-  walks C Λ fm known = walked 𝓤 H A f.ended stayed (f.clauses 𝓤 H A at-mem run) (WpFn 𝓤 H C Λ code.function) (λ κs.
-      (ptr-vals, (slice-vals, (slice-vals, (slice-vals, (slice-vals, (slice-vals, tt))))))) (λ κs.
+  walks : (C : Calls 𝓤 H) (Λ : Loops 𝓤 H) → FmC 𝓤 H (W .laws) C → Triple 𝓤 (C #g) (Core 𝓤 H A at-mem run)
+      → Walks 𝓤 H A f.ended stayed (WpFn 𝓤 H C Λ code.function) (f.clauses 𝓤 H A at-mem run)
+  walks C Λ fm known = walked 𝓤 H A f.ended stayed (f.clauses 𝓤 H A at-mem run) (WpFn 𝓤 H C Λ code.function)
+      (λ κs. (ptr-vals, (slice-vals, (slice-vals, (slice-vals, (slice-vals, (slice-vals, tt)))))))
+      (λ κs.
       (mut-tells (named 0) (κs .0) T.the-row, (mut-slice-tells (named 1) (κs .1 .0) u8, (mut-slice-tells (named 2) (κs .1 .1 .0) u8, (mut-slice-tells (named 3) (κs .1 .1 .1 .0) u8, (mut-slice-tells (named 4) (κs .1 .1 .1 .1 .0) u8, (mut-slice-tells (named 5) (κs .1 .1 .1 .1 .1 .0) u8, tt)))))))
       (λ κs qs bounds a _ are. via 𝓤 _ (fst∗ 𝓤 _ (emp 𝓤))
       (walk 𝓤 H A W at-mem run (κs .0) (qs .0) (a .0 .ptr .0) (a .0 .ptr .1) (a .0 .name) (a .0 .now) (κs .1 .0) (qs .1 .0) (a .1 .0 .ptr .0) (a .1 .0 .ptr .1) (a .1 .0 .name) (a .1 .0 .now) (κs .1 .1 .0) (qs .1 .1 .0) (a .1 .1 .0 .ptr .0) (a .1 .1 .0 .ptr .1) (a .1 .1 .0 .name) (a .1 .1 .0 .now) (κs .1 .1 .1 .0) (qs .1 .1 .1 .0) (a .1 .1 .1 .0 .ptr .0) (a .1 .1 .1 .0 .ptr .1) (a .1 .1 .1 .0 .name) (a .1 .1 .1 .0 .now) (κs .1 .1 .1 .1 .0) (qs .1 .1 .1 .1 .0) (a .1 .1 .1 .1 .0 .ptr .0) (a .1 .1 .1 .1 .0 .ptr .1) (a .1 .1 .1 .1 .0 .name) (a .1 .1 .1 .1 .0 .now) (κs .1 .1 .1 .1 .1 .0) (qs .1 .1 .1 .1 .1 .0) (a .1 .1 .1 .1 .1 .0 .ptr .0) (a .1 .1 .1 .1 .1 .0 .ptr .1) (a .1 .1 .1 .1 .1 .0 .name) (a .1 .1 .1 .1 .1 .0 .now) C Λ fm known (are .1 .0 .0 .1) (are .1 .1 .0 .0 .1) (are .1 .1 .1 .0 .0 .1) (are .1 .1 .1 .1 .0 .0 .1) (are .1 .1 .1 .1 .1 .0 .0 .1)))
@@ -232,14 +252,17 @@ module _ {M : Type 1} (𝓤 : URA M) (H : Heap 𝓤) (A : Atoms 𝓤) (W : Given
       (goes-ref 𝓤 H A W 6 0 tt (plain (λ _. T.the-row)), (goes-gave-slice 𝓤 H A W 6 1 tt (plain (λ _. u8)), (goes-gave-slice 𝓤 H A W 6 2 tt (plain (λ _. u8)), (goes-gave-slice 𝓤 H A W 6 3 tt (plain (λ _. u8)), (goes-gave-slice 𝓤 H A W 6 4 tt (plain (λ _. u8)), (goes-gave-slice 𝓤 H A W 6 5 tt (plain (λ _. u8)), tt))))))
 
 meets : {M : Type 1} (𝓤 : URA M) (H : Heap 𝓤) (A : Atoms 𝓤) → Given 𝓤 H A → (at-mem : Memory → SProp 𝓤)
-    (run : Routine → Fun 𝓤) (𝓣 : Tables 𝓤 H) → Triple 𝓤 (𝓣 .C #g) (Core 𝓤 H A at-mem run) → Meets 𝓤 H A f.signature
-    (WpFn 𝓤 H (𝓣 .C) (𝓣 .Λ) code.function) (f.spec 𝓤 H A at-mem run)
-meets 𝓤 H A W at-mem run 𝓣 known = walk-meets 𝓤 H A f.ended stayed W (goes 𝓤 H A W at-mem run) (f.clauses 𝓤 H A at-mem run)
+    (run : Routine → Fun 𝓤) (𝓣 : Tables 𝓤 H) → Triple 𝓤 (𝓣 .C #g) (Core 𝓤 H A at-mem run)
+    → Meets 𝓤 H A f.signature (WpFn 𝓤 H (𝓣 .C) (𝓣 .Λ) code.function) (f.spec 𝓤 H A at-mem run)
+meets 𝓤 H A W at-mem run 𝓣 known =
+    walk-meets 𝓤 H A f.ended stayed W (goes 𝓤 H A W at-mem run) (f.clauses 𝓤 H A at-mem run)
     (WpFn 𝓤 H (𝓣 .C) (𝓣 .Λ) code.function) (WpFn-mono 𝓤 H (W .laws) 𝓣 code.function)
     (walks 𝓤 H A W at-mem run (𝓣 .C) (𝓣 .Λ) (fmOf 𝓤 H (W .laws) 𝓣) known)
 
 pub she-export-ram-key-spec : {M : Type 1} → stated.statement M
 unfolding code.routine tablesOf
-she-export-ram-key-spec 𝓤 H 𝓜 𝓖 𝓡 = entered 𝓤 H (tripleOf 𝓤 H (𝓖 .A) f.signature (f.spec 𝓤 H (𝓖 .A) (𝓜 .mem) (𝓡 .run)))
+she-export-ram-key-spec 𝓤 H 𝓜 𝓖 𝓡 =
+    entered 𝓤 H (tripleOf 𝓤 H (𝓖 .A) f.signature (f.spec 𝓤 H (𝓖 .A) (𝓜 .mem) (𝓡 .run)))
     (tables 𝓤 H 𝓜 𝓡 code.env .C) (tables 𝓤 H 𝓜 𝓡 code.env .Λ) #f code.function (code.unfolded 𝓤 H 𝓜 𝓡)
-    (meets 𝓤 H (𝓖 .A) (givenOf 𝓤 H 𝓜 𝓖) (𝓜 .mem) (𝓡 .run) (tablesOf 𝓤 H 𝓜 (tables 𝓤 H 𝓜 𝓡 code.env)) (cited 𝓤 H (Core 𝓤 H (𝓖 .A) (𝓜 .mem) (𝓡 .run)) 𝓜 𝓡 code.env #g g-def.routine code.calls-load·export-ram-key (g-thm.met 𝓤 H 𝓜 𝓖 𝓡)))
+    (meets 𝓤 H (𝓖 .A) (givenOf 𝓤 H 𝓜 𝓖) (𝓜 .mem) (𝓡 .run) (tablesOf 𝓤 H 𝓜 (tables 𝓤 H 𝓜 𝓡 code.env))
+    (cited 𝓤 H (Core 𝓤 H (𝓖 .A) (𝓜 .mem) (𝓡 .run)) 𝓜 𝓡 code.env #g g-def.routine code.calls-load·export-ram-key (g-thm.met 𝓤 H 𝓜 𝓖 𝓡)))
