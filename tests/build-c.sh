@@ -4,6 +4,7 @@
 set -eu
 cd "$(dirname "$0")/.."
 out=target/native
+PATH=$PATH:${CARGO_HOME:-$HOME/.cargo}/bin # where rustup puts rustc
 sh tests/native-archive.sh board
 warnings="-Wall -Wextra -Wpedantic -Werror"
 checkers="-g -O1 -fsanitize=address,undefined -fno-sanitize-recover=all"

@@ -12,6 +12,7 @@ A fault is a name, a file of tests/second/, and a text there that is replaced by
     ++
     other text
 """
+import os
 import pathlib
 import re
 import shutil
@@ -32,7 +33,9 @@ def read_faults():
 
 
 def run(*words):
-    return subprocess.run([str(word) for word in words], capture_output=True, text=True, cwd=ROOT)
+    # rustup puts rustc under the home directory
+    path = os.environ["PATH"] + ":" + os.environ.get("CARGO_HOME", os.path.expanduser("~/.cargo")) + "/bin"
+    return subprocess.run([str(word) for word in words], capture_output=True, text=True, cwd=ROOT, env={**os.environ, "PATH": path})
 
 
 def build(place, file, old, new):

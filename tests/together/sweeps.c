@@ -183,6 +183,7 @@ static const struct {
 
 int run_sweeps(uint64_t from) {
     enum { RECORDS = 6 };
+    uint64_t all = 0;
     seed = from;
     for (size_t i = 0; i < LENGTH(sweeps); i++) {
         sweep = sweeps[i].name;
@@ -194,6 +195,8 @@ int run_sweeps(uint64_t from) {
             sweeps[i].sweep(&d);
         }
         printf("sweep of %s: %" PRIu64 " calls to each, no difference\n", sweep, calls);
+        all += calls;
     }
+    printf("%zu sweeps: %" PRIu64 " calls to each, no difference\n", LENGTH(sweeps), all);
     return 0;
 }
