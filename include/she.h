@@ -72,18 +72,18 @@ enum {
  * nor 1, a flag that its slot hasn't, an empty slot that isn't zero and the like) counts as not made, and every command answers
  * 12 to it. Its keys lie open in it: who can read it, has them. */
 struct she_device {
-    uint8_t keys[16 * SHE_SLOTS];
-    uint32_t counters[SHE_SLOTS];
-    uint8_t flags[SHE_SLOTS];
-    uint8_t empty[SHE_SLOTS];
+    uint8_t keys[16 * SHE_SLOTS];  /* sixteen bytes a slot */
+    uint32_t counters[SHE_SLOTS];  /* SECRET_KEY and RAM_KEY have none, and 0 here */
+    uint8_t flags[SHE_SLOTS];      /* likewise */
+    uint8_t empty[SHE_SLOTS];      /* 1: the slot is empty */
     uint8_t uid[SHE_UID];
-    uint8_t seed[SHE_BLOCK];
-    uint8_t state[SHE_BLOCK];
+    uint8_t seed[SHE_BLOCK];       /* of the random numbers; outlives a reset */
+    uint8_t state[SHE_BLOCK];      /* zero, as the next, before she_init_rng */
     uint8_t rngkey[SHE_BLOCK];
-    uint8_t rng;
-    uint8_t plain;
-    uint8_t debugger;
-    uint8_t made;
+    uint8_t rng;                   /* 1: she_init_rng was called since reset */
+    uint8_t plain;                 /* 1: RAM_KEY came in plain */
+    uint8_t debugger;              /* 1: a debugger is attached */
+    uint8_t made;                  /* 1: made */
 };
 
 /* ---- algorithms. Answers: 12 for a wrong length */

@@ -148,7 +148,7 @@ static size_t agreement(const uint8_t *a, const uint8_t *b, size_t length) {
 }
 
 /* The last three bytes of a record mean nothing. */
-static size_t meant(const struct call *c, size_t piece) { return piece == THE_RECORD ? (size_t)MEANT : c->piece[piece].length; }
+static size_t meant(const struct call *c, size_t piece) { return piece == THE_RECORD ? (size_t)SHE_DEVICE_BYTES : c->piece[piece].length; }
 
 static void compare_sides(const struct verdict *v) {
     if (v->answer[0] != v->answer[1]) fail(v, "the answers differ");

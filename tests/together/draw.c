@@ -185,7 +185,7 @@ static void spoil_record(struct she_device *d) {
     case 10: flip_any_bit(d->keys + 16 * slot, 16); break;
     case 11: flip_any_bit(d->state, 16); break;
     case 12: flip_any_bit(d->rngkey, 16); break;
-    default: flip_any_bit((uint8_t *)d, MEANT);
+    default: flip_any_bit((uint8_t *)d, SHE_DEVICE_BYTES);
     }
 }
 
@@ -202,12 +202,12 @@ static void draw_record(struct she_device *d) {
     uint64_t kind = below(100);
     is_make_next = kind < 37;
     is_short = kind >= 74;
-    if (kind < 10) fill((uint8_t *)d, MEANT);
+    if (kind < 10) fill((uint8_t *)d, SHE_DEVICE_BYTES);
     else if (kind < 27) memset(d, 0, sizeof *d);
     else if (kind < 74) rich_record(d);
     else if (kind < 96) spoiled_record(d);
     else if (kind < 98) memset(d, 0, sizeof *d);
-    else fill((uint8_t *)d, MEANT);
+    else fill((uint8_t *)d, SHE_DEVICE_BYTES);
 }
 
 /* ---- key messages */

@@ -28,7 +28,7 @@ static int takes(const struct function *f, enum number_kind kind) {
 /* Marks, counters, flags: which records count as made. */
 static void sweep_record(const struct she_device *d) {
     const struct function *f = function_named("get_status");
-    for (size_t at = 0; at < MEANT; at++)
+    for (size_t at = 0; at < SHE_DEVICE_BYTES; at++)
         for (unsigned value = 0; value < 256; value++) {
             prepare_call(&c, f, d, NULL);
             c.piece[THE_RECORD].bytes[at] = (uint8_t)value;

@@ -9,8 +9,7 @@
 enum {
     MAX_BUFFERS = 6,
     MAX_NUMBERS = 4,
-    LARGEST = 16 * (SHE_MAX_BLOCKS + 1), /* bytes of the longest buffer ever lent: one block too many */
-    MEANT = offsetof(struct she_device, made) + 1 /* bytes of a record that mean something */
+    LARGEST = 16 * (SHE_MAX_BLOCKS + 1) /* bytes of the longest buffer ever lent: one block too many */
 };
 
 /* What is lent to a call: the record, the byte for a verdict or a status, and the buffers in the order of the parameters. */
