@@ -32,7 +32,7 @@ header() {
 }
 
 # The library asks for nothing of the program that it is linked into, but what every compiler may ask for.
-symbols() { # ARCHIVE
+symbols() { # ARCHIVE OR OBJECT
     nm -u "$1" | sed -n 's/^ *U //p' | sort -u >"$out/undefined"
     if grep -v -x -e memcpy -e memset -e memmove -e memcmp -e bcmp "$out/undefined"; then
         return 1
@@ -50,8 +50,8 @@ demo() { # PROGRAM: it writes what it should, line by line
     "$@" >"$out/yard.out" && cmp "$out/yard.out" demo/yard.txt && tail -n 1 "$out/yard.out"
 }
 
-# What the kit writes for firmware is an archive for x86-64. Elsewhere the demo is linked with that one too, by the kit's own linker,
-# and run under its emulator.
+# What the kit writes for firmware is code for x86-64. Elsewhere the demo is linked with that too, by the kit's own linker, and run
+# under its emulator.
 shipped() {
     machine=$(uname -m)
     if [ "$machine" = x86_64 ]; then
@@ -61,12 +61,11 @@ shipped() {
     command -v clang >/dev/null || { echo "no clang to compile the demo for x86-64: not tried"; return 0; }
     tools=$(dirname "$(dirname "$(rt doc)")")/on/$machine/toolchain
     lib=$tools/lib
-    rt staticlib board || return 1
-    symbols target/staticlib/libboard.a || return 1
+    symbols "$out/board-x86-64.o" || return 1
     clang --target=x86_64-linux-gnu -std=c99 -O2 -Iinclude -isystem "/usr/include/$machine-linux-gnu" -c demo/yard.c \
         -o "$out/yard-x86-64.o" || return 1
     "$tools/bin/ld.lld" -pie --dynamic-linker /lib64/ld-linux-x86-64.so.2 -o "$out/yard-x86-64" "$lib/Scrt1.o" "$lib/crti.o" \
-        "$lib/crtbeginS.o" "$out/yard-x86-64.o" target/staticlib/libboard.a "$lib/libc.so.6" "$lib/libc_nonshared.a" \
+        "$lib/crtbeginS.o" "$out/yard-x86-64.o" "$out/board-x86-64.o" "$lib/libc.so.6" "$lib/libc_nonshared.a" \
         "$lib/libgcc.a" "$lib/crtendS.o" "$lib/crtn.o" || return 1
     demo "$tools/bin/qemu-x86_64" "$lib/ld-linux-x86-64.so.2" --library-path "$lib" "$out/yard-x86-64"
 }

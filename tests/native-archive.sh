@@ -1,9 +1,10 @@
 #!/bin/sh
 # native-archive.sh CRATE: proves the crate and writes target/native/libCRATE.a, for C programs of this very machine.
 #
-# The kit compiles for x86-64. On another processor its compiler is asked for that one's code instead: by a copy of the kit
-# made of links, in which `clang` is a script that hands the same module to the same compiler without the x86-64 flags.
-# What is proved, and the module that is compiled, are the same; only the last step differs.
+# The kit compiles for x86-64. On another processor its compiler is asked for that one's code as well: by a copy of the kit
+# made of links, in which `clang` is a script that does what it is told, puts the x86-64 object aside as
+# target/native/CRATE-x86-64.o, and hands the same module to the same compiler without the x86-64 flags. What is proved, and the
+# module that is compiled, are the same; only the last step differs.
 set -eu
 crate=$1
 machine=$(uname -m)
@@ -29,6 +30,7 @@ compiler=$kit/on/$machine/toolchain/bin/clang
 cat >"$copy/on/$machine/toolchain/bin/clang" <<SCRIPT
 #!/bin/sh
 set -eu
+"$compiler" "\$@"
 while [ \$# -gt 0 ]; do
     case \$1 in
     -o) out=\$2; shift ;;
@@ -36,6 +38,7 @@ while [ \$# -gt 0 ]; do
     esac
     shift
 done
+cp "\$out" "$(pwd)/target/native/$crate-x86-64.o"
 "$compiler" --target=x86_64-unknown-linux-gnu -S -emit-llvm -Xclang -disable-llvm-passes -O3 -x ir "\$module" -o "\$module.ll"
 grep -v -e '^target datalayout' -e '^target triple' "\$module.ll" >"\$module.native.ll"
 exec "$compiler" -O3 -fPIC -ffunction-sections -fdata-sections -Wno-override-module -c -x ir "\$module.native.ll" -o "\$out"
