@@ -1,6 +1,6 @@
 #!/bin/sh
-# build-c.sh: builds what the tests of the C side run, into target/native/: the library for this machine (proved first), the demo, the
-# second program, its comparison with OpenSSL, and the comparison of both through include/she.h, also with gcc's checkers in it.
+# build-c.sh: builds what the tests of the C side run, into target/native/: the library for this machine (proved first), the demo,
+# the second program, its comparison with OpenSSL, and the comparison of both through include/she.h, also with gcc's checkers in it.
 set -eu
 cd "$(dirname "$0")/.."
 out=target/native

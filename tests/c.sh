@@ -1,6 +1,6 @@
 #!/bin/sh
-# c.sh: the library as C has it. Everything that is built by build-c.sh is run; what each run says goes to target/native/*.log, and its
-# last line is printed here. The last line is 'C: N passed, M failed', and the status is 0 only where M is 0.
+# c.sh: the library as C has it. Everything that is built by build-c.sh is run; what each run says goes to target/native/*.log, and
+# its last line is printed here. The last line is 'C: N passed, M failed', and the status is 0 only where M is 0.
 set -u
 cd "$(dirname "$0")/.." || exit 2
 out=target/native
@@ -32,8 +32,8 @@ header() {
 }
 
 # The library asks for nothing of the program that it is linked into, but what every compiler may ask for.
-symbols() { # ARCHIVE OR OBJECT
-    nm -u "$1" | sed -n 's/^ *U //p' | sort -u >"$out/undefined"
+symbols() {
+    nm -u "$out/libboard.a" | sed -n 's/^ *U //p' | sort -u >"$out/undefined"
     if grep -v -x -e memcpy -e memset -e memmove -e memcmp -e bcmp "$out/undefined"; then
         return 1
     fi
@@ -50,26 +50,6 @@ demo() { # PROGRAM: it writes what it should, line by line
     "$@" >"$out/yard.out" && cmp "$out/yard.out" demo/yard.txt && tail -n 1 "$out/yard.out"
 }
 
-# What the kit writes for firmware is code for x86-64. Elsewhere the demo is linked with that too, by the kit's own linker, and run
-# under its emulator.
-shipped() {
-    machine=$(uname -m)
-    if [ "$machine" = x86_64 ]; then
-        echo "this machine is x86-64, so that all here is linked with what the kit writes"
-        return 0
-    fi
-    command -v clang >/dev/null || { echo "no clang to compile the demo for x86-64: not tried"; return 0; }
-    tools=$(dirname "$(dirname "$(rt doc)")")/on/$machine/toolchain
-    lib=$tools/lib
-    symbols "$out/board-x86-64.o" || return 1
-    clang --target=x86_64-linux-gnu -std=c99 -O2 -Iinclude -isystem "/usr/include/$machine-linux-gnu" -c demo/yard.c \
-        -o "$out/yard-x86-64.o" || return 1
-    "$tools/bin/ld.lld" -pie --dynamic-linker /lib64/ld-linux-x86-64.so.2 -o "$out/yard-x86-64" "$lib/Scrt1.o" "$lib/crti.o" \
-        "$lib/crtbeginS.o" "$out/yard-x86-64.o" "$out/board-x86-64.o" "$lib/libc.so.6" "$lib/libc_nonshared.a" \
-        "$lib/libgcc.a" "$lib/crtendS.o" "$lib/crtn.o" || return 1
-    demo "$tools/bin/qemu-x86_64" "$lib/ld-linux-x86-64.so.2" --library-path "$lib" "$out/yard-x86-64"
-}
-
 limit="timeout 600"
 memory="$limit valgrind --quiet --error-exitcode=9 --leak-check=full"
 # gcc's checkers want their addresses free, which some kernels' random places are not; leaks are valgrind's to find.
@@ -80,12 +60,11 @@ fi
 
 run build sh tests/build-c.sh
 run header header
-run symbols symbols "$out/libboard.a"
+run symbols symbols
 run readme readme
 run demo demo $limit "$out/yard"
 run demo-checked demo $checked "$out/yard-checked"
 run demo-valgrind demo $memory "$out/yard"
-run demo-shipped shipped
 run openssl $limit "$out/openssl" 1
 run vectors $limit "$out/together" vectors
 run sweeps $limit "$out/together" sweeps 1
@@ -94,5 +73,6 @@ run sequences-checked $checked "$out/together-checked" --exact --some 2 3000
 run sweeps-checked $checked "$out/together-checked" sweeps 2
 run vectors-valgrind $memory "$out/together" --exact vectors
 run sequences-valgrind $memory "$out/together" --exact --some 3 1500
+run shipped sh tests/shipped.sh
 echo "C: $passed passed, $failed failed"
 [ "$failed" -eq 0 ]

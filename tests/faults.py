@@ -1,8 +1,9 @@
 #!/usr/bin/env python3
 """faults.py [SEED] [SEQUENCES]: whether the comparison of the library with the second program can fail.
 
-Each fault of tests/faults.txt is put into a copy of the second program, and that copy stands in the place of the library. The random
-sequences must see the difference. Writes for each fault where it was seen, and how many were not; the status is 0 only for none.
+Each fault of tests/faults.txt is put into a copy of the second program, and that copy stands in the place of the library. The
+random sequences must see the difference. Writes for each fault where it was seen, and how many were not; the status is 0 only for
+none.
 
 A fault is a name, a file of tests/second/, and a text there that is replaced by another:
 
@@ -35,7 +36,8 @@ def read_faults():
 def run(*words):
     # rustup puts rustc under the home directory
     path = os.environ["PATH"] + ":" + os.environ.get("CARGO_HOME", os.path.expanduser("~/.cargo")) + "/bin"
-    return subprocess.run([str(word) for word in words], capture_output=True, text=True, cwd=ROOT, env={**os.environ, "PATH": path})
+    words = [str(word) for word in words]
+    return subprocess.run(words, capture_output=True, text=True, cwd=ROOT, env={**os.environ, "PATH": path})
 
 
 def build(place, file, old, new):

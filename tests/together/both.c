@@ -148,7 +148,9 @@ static size_t agreement(const uint8_t *a, const uint8_t *b, size_t length) {
 }
 
 /* The last three bytes of a record mean nothing. */
-static size_t meant(const struct call *c, size_t piece) { return piece == THE_RECORD ? (size_t)SHE_DEVICE_BYTES : c->piece[piece].length; }
+static size_t meant(const struct call *c, size_t piece) {
+    return piece == THE_RECORD ? (size_t)SHE_DEVICE_BYTES : c->piece[piece].length;
+}
 
 static void compare_sides(const struct verdict *v) {
     if (v->answer[0] != v->answer[1]) fail(v, "the answers differ");
@@ -199,6 +201,20 @@ static void keep_outcome(struct call *c) {
     for (size_t i = 0; i < piece_count(c); i++) memcpy(c->piece[i].bytes, sides[0].lent.piece[i].bytes, meant(c, i));
 }
 
+/* ---- a number made of all that was left (FNV-1a), which is the same for the same run on any machine */
+
+static uint64_t digest = 0xCBF29CE484222325u;
+
+static void digest_byte(uint8_t byte) { digest = (digest ^ byte) * 0x100000001B3u; }
+
+static void digest_outcome(const struct call *c, uint8_t answer) {
+    digest_byte(answer);
+    for (size_t i = 0; i < piece_count(c); i++)
+        for (size_t k = 0; k < meant(c, i); k++) digest_byte(c->piece[i].bytes[k]);
+}
+
+void print_digest(void) { printf("digest %016" PRIx64 "\n", digest); }
+
 uint8_t call_both(struct call *c, const char *where) {
     struct verdict v = {c, where, {0, 0}};
     lend(&sides[0], c);
@@ -207,6 +223,7 @@ uint8_t call_both(struct call *c, const char *where) {
     v.answer[1] = c->function->second(&sides[1].lent);
     compare(&v);
     keep_outcome(c);
+    digest_outcome(c, v.answer[0]);
     take_back(&sides[0], c);
     take_back(&sides[1], c);
     return v.answer[0];

@@ -49,6 +49,7 @@ static int run_random(const struct options *o) {
         if (!o->sequences && (i + 1) % LINE_EVERY == 0) print_progress(i + 1);
     }
     print_counts();
+    print_digest();
     printf("seed %" PRIu64 ": %" PRIu64 " sequences, %" PRIu64 " calls to each, no difference, %.1f s\n", o->seed, o->sequences,
            calls_counted(), (double)(clock() - start) / CLOCKS_PER_SEC);
     return is_anything_missing() && !o->is_some;

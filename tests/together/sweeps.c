@@ -197,6 +197,7 @@ int run_sweeps(uint64_t from) {
         printf("sweep of %s: %" PRIu64 " calls to each, no difference\n", sweep, calls);
         all += calls;
     }
+    print_digest();
     printf("%zu sweeps: %" PRIu64 " calls to each, no difference\n", LENGTH(sweeps), all);
     return 0;
 }

@@ -86,6 +86,7 @@ void set_length(struct call *c, size_t buffer, size_t length);
 /* Makes the call to both. On agreement the outcome is in the call itself: record, byte and buffers as they were left. On a
  * difference it prints all it knows, with `where` for a first line, and ends the program. */
 uint8_t call_both(struct call *c, const char *where);
+void print_digest(void); /* of all that calls have left so far */
 
 /* ---- draw.c: random sequences. The same seed and number give the same sequence, whatever ran before */
 void begin_sequence(uint64_t seed, uint64_t sequence, struct she_device *device);
