@@ -670,8 +670,7 @@ static void print_commands(void)
  * nothing. It is painted twice, in two colours, so that a byte written in the one colour shows in the other. So the figure has
  * the frames of the function and of all that it calls (memcpy too), and the arguments that are passed on the stack. Two things
  * it can't see: what a frame reserves at its lower end and doesn't write, and ways through a function other than the one taken,
- * which is that of success, on long inputs. The greatest sum of frames along the calls, in the disassembly, has both; on aarch64
- * the figures were these sums, but for 16 bytes of she_make. Another compiler or processor has other frames. */
+ * which is that of success, on long inputs. So SHE_STACK_BYTES has room above it. Another compiler or processor has other frames. */
 
 enum { STACK = 65536 };
 
@@ -781,13 +780,14 @@ static size_t print_stack(void)
     return most;
 }
 
-/* Whether what was measured keeps what is promised. SHE_STACK_BYTES is 0 as long as nothing is promised. */
+/* Whether what was measured keeps what is promised. */
 static int judge(size_t most)
 {
     int wrong = 0;
-    if (best_command[STATUS] >= COMMAND_NANOSECONDS)
-        wrong = fprintf(stderr, "bench: she_get_status takes %d ns or more\n", COMMAND_NANOSECONDS);
-    if (SHE_STACK_BYTES != 0 && most > SHE_STACK_BYTES)
+    for (int i = 0; i < COMMANDS; i++)
+        if (best_command[i] >= COMMAND_NANOSECONDS)
+            wrong = fprintf(stderr, "bench: %s takes %d ns or more\n", commands[i].name, COMMAND_NANOSECONDS);
+    if (most > SHE_STACK_BYTES)
         wrong = fprintf(stderr, "bench: the stack goes deeper than SHE_STACK_BYTES\n");
     return wrong != 0;
 }
