@@ -163,7 +163,8 @@ uint8_t she_verify_mac(struct she_device *device, uint32_t slot, uint64_t bits, 
                        const uint8_t *mac, size_t mac_len, uint32_t mac_bits, uint8_t *verdict);
 
 /* Takes a key message: M1 (16 bytes), M2 (32) and M3 (16) in; M4 (32) and M5 (16), for the sender, out. Answers: 3 for a pair that
- * isn't allowed, 6, 4 and 2 of the authority, 7 for a message that is forged, for another board, or not newer. */
+ * isn't allowed, 6 for a target with WRITE set, 4 and 2 for an authority that is empty (and not the target itself) or locked, 7
+ * for a message that is forged, for another board, or not newer. */
 uint8_t she_load_key(struct she_device *device, const uint8_t *m1, size_t m1_len, const uint8_t *m2, size_t m2_len, const uint8_t *m3,
                      size_t m3_len, uint8_t *m4, size_t m4_len, uint8_t *m5, size_t m5_len);
 

@@ -51,6 +51,7 @@ use Rattle.device.proofs.Reply.Laws as O′
 abbrev pub vals : Device → List Val
 vals = LL.vals T.the-type T′.the-laws
 
+-- what whoever holds a reply knows of its answer, and of its record
 pub answer-fits : (r : Reply) (v : Val) → Is O.the-row r (v ∷ []) → r .answer < 2 ^ 8
 answer-fits r v is = LL.owed O.the-type O′.the-laws r _ is .0 .1
 
