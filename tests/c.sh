@@ -40,10 +40,13 @@ symbols() {
     echo "undefined symbols: $(tr '\n' ' ' <"$out/undefined")"
 }
 
-# The README's example is a whole program, and does what it says.
+# The README's example is a whole program, and does what it says, as C and as C++.
 readme() {
     sed -n '/^```c$/,/^```$/p' README.md | grep -v '^```' >"$out/readme.c"
-    gcc -std=c99 -Wall -Wextra -Wpedantic -Werror -Iinclude "$out/readme.c" "$out/libboard.a" -o "$out/readme" && "$out/readme"
+    gcc -std=c99 -Wall -Wextra -Wpedantic -Werror -Iinclude "$out/readme.c" "$out/libboard.a" -o "$out/readme" || return 1
+    g++ -std=c++11 -Wall -Wextra -Wpedantic -Werror -Iinclude -x c++ "$out/readme.c" -x none "$out/libboard.a" \
+        -o "$out/readme++" || return 1
+    [ "$("$out/readme")" = "$("$out/readme++")" ] && "$out/readme"
 }
 
 demo() { # PROGRAM: it writes what it should, line by line
