@@ -78,23 +78,22 @@ pub unsafe extern "C" fn second_kdf(
 
 // ---- key messages, for the sender
 
+type Form = for<'a> fn(&Order<'a>, &mut UpdateRoom<'a>) -> Answer<()>;
+
+/// The writer in one of its forms. Which of the order a form looks at is the form's to say.
+unsafe fn write(form: Form, order: Order, [m1, m2, m3]: [(*mut u8, usize); 3]) -> u8 {
+    number(&form(&order, &mut UpdateRoom { m1: room(m1.0, m1.1), m2: room(m2.0, m2.1), m3: room(m3.0, m3.1) }))
+}
+
 #[no_mangle]
 pub unsafe extern "C" fn second_write_key(
     uid: *const u8, uid_len: usize, target: u32, authority: u32, authority_key: *const u8, authority_key_len: usize, counter: u64,
     flags: u32, new_key: *const u8, new_key_len: usize, m1: *mut u8, m1_len: usize, m2: *mut u8, m2_len: usize, m3: *mut u8,
     m3_len: usize,
 ) -> u8 {
-    let order = Order {
-        uid: lent(uid, uid_len),
-        target,
-        authority,
-        authority_key: lent(authority_key, authority_key_len),
-        counter,
-        flags,
-        new_key: lent(new_key, new_key_len),
-    };
-    let mut update = UpdateRoom { m1: room(m1, m1_len), m2: room(m2, m2_len), m3: room(m3, m3_len) };
-    number(&messages::write_key(&order, &mut update))
+    let (uid, authority_key, new_key) = (lent(uid, uid_len), lent(authority_key, authority_key_len), lent(new_key, new_key_len));
+    let order = Order { uid, target, authority, authority_key, counter, flags, new_key };
+    write(messages::write_key, order, [(m1, m1_len), (m2, m2_len), (m3, m3_len)])
 }
 
 #[no_mangle]
@@ -102,17 +101,9 @@ pub unsafe extern "C" fn second_write_key_short(
     uid: *const u8, uid_len: usize, target: u32, authority: u32, authority_key: *const u8, authority_key_len: usize, counter: u64,
     new_key: *const u8, new_key_len: usize, m1: *mut u8, m1_len: usize, m2: *mut u8, m2_len: usize, m3: *mut u8, m3_len: usize,
 ) -> u8 {
-    let order = Order {
-        uid: lent(uid, uid_len),
-        target,
-        authority,
-        authority_key: lent(authority_key, authority_key_len),
-        counter,
-        flags: 0,
-        new_key: lent(new_key, new_key_len),
-    };
-    let mut update = UpdateRoom { m1: room(m1, m1_len), m2: room(m2, m2_len), m3: room(m3, m3_len) };
-    number(&messages::write_key_short(&order, &mut update))
+    let (uid, authority_key, new_key) = (lent(uid, uid_len), lent(authority_key, authority_key_len), lent(new_key, new_key_len));
+    let order = Order { uid, target, authority, authority_key, counter, flags: 0, new_key };
+    write(messages::write_key_short, order, [(m1, m1_len), (m2, m2_len), (m3, m3_len)])
 }
 
 #[no_mangle]
@@ -120,17 +111,9 @@ pub unsafe extern "C" fn second_fleet_sheet(
     target: u32, authority: u32, authority_key: *const u8, authority_key_len: usize, counter: u64, new_key: *const u8,
     new_key_len: usize, m1: *mut u8, m1_len: usize, m2: *mut u8, m2_len: usize, m3: *mut u8, m3_len: usize,
 ) -> u8 {
-    let order = Order {
-        uid: &[],
-        target,
-        authority,
-        authority_key: lent(authority_key, authority_key_len),
-        counter,
-        flags: 0,
-        new_key: lent(new_key, new_key_len),
-    };
-    let mut update = UpdateRoom { m1: room(m1, m1_len), m2: room(m2, m2_len), m3: room(m3, m3_len) };
-    number(&messages::fleet_sheet(&order, &mut update))
+    let (authority_key, new_key) = (lent(authority_key, authority_key_len), lent(new_key, new_key_len));
+    let order = Order { uid: &[], target, authority, authority_key, counter, flags: 0, new_key };
+    write(messages::fleet_sheet, order, [(m1, m1_len), (m2, m2_len), (m3, m3_len)])
 }
 
 #[no_mangle]

@@ -113,24 +113,24 @@ all-fit lengths c f t a e =
     let flags = fitting 255 f (omega (arith, fine .2)) in
     (counter, flags, fitting 255 t (omega (arith, slots .1)), fitting 255 a (omega (arith, slots .2)))
 
+-- two outcomes are one where they are so for an answer of 0 and for any other
+by-answer : {X : Type 0} {x y : X} (answer : ℕ) → (answer ≡ 0 → x ≡ y) → ((answer ≡ 0 → ⊥) → x ≡ y) → x ≡ y
+by-answer {x = x} {y = y} answer done refused = tests (eqb answer 0) refl
+  where
+    tests : (b : Bool) → eqb answer 0 ≡ b → x ≡ y
+    tests true e = done (eqb-true answer 0 e)
+    tests false e = refused (eqb-false answer 0 e)
+
 pub wide-form : (uid secret key b1 b2 b3 : List ℕ) (t a c f : ℕ)
     → fullForm uid (saturated 255 t) (saturated 255 a) secret (saturated limit32 c) (saturated 255 f) key b1 b2 b3
     ≡ fullForm uid t a secret c f key b1 b2 b3
-wide-form uid secret key b1 b2 b3 t a c f = tests (eqb answer 0) refl
-  where
-    lengths : Bool
-    lengths = right (messageLengths (length uid) (length secret) (length key) (length b1) (length b2) (length b3))
-
-    answer : ℕ
-    answer = messageAnswer lengths c f t a
-
-    tests : (b : Bool) → eqb answer 0 ≡ b
-        → fullForm uid (saturated 255 t) (saturated 255 a) secret (saturated limit32 c) (saturated 255 f) key b1 b2 b3
-        ≡ fullForm uid t a secret c f key b1 b2 b3
-    tests true e = let fit = all-fit lengths c f t a (eqb-true answer 0 e) in rw (fit .0, fit .1, fit .2, fit .3) refl
-    tests false e =
-        sym (messages-refused uid secret key b1 b2 b3 _ _ _ _ answer (sym (wide-answer lengths c f t a)) (eqb-false answer 0 e))
-        ∙ messages-refused uid secret key b1 b2 b3 t a c f answer refl (eqb-false answer 0 e)
+wide-form uid secret key b1 b2 b3 t a c f =
+    let lengths = right (messageLengths (length uid) (length secret) (length key) (length b1) (length b2) (length b3)) in
+    let answer = messageAnswer lengths c f t a in
+    by-answer answer
+    (λ zero. let fit = all-fit lengths c f t a zero in rw (fit .0, fit .1, fit .2, fit .3) refl)
+    (λ other. sym (messages-refused uid secret key b1 b2 b3 _ _ _ _ answer (sym (wide-answer lengths c f t a)) other)
+    ∙ messages-refused uid secret key b1 b2 b3 t a c f answer refl other)
 
 pub wide-short : (uid secret key b1 b2 b3 : List ℕ) (t a c : ℕ)
     → shortForm uid (saturated 255 t) (saturated 255 a) secret (saturated limit32 c) key b1 b2 b3
@@ -142,22 +142,11 @@ wide-short uid secret key b1 b2 b3 t a c =
 
 pub wide-proof : (uid key b4 b5 : List ℕ) (t a c : ℕ)
     → answerForm uid (saturated 255 t) (saturated 255 a) (saturated limit32 c) key b4 b5 ≡ answerForm uid t a c key b4 b5
-wide-proof uid key b4 b5 t a c = tests (eqb answer 0) refl
-  where
-    lengths : Bool
-    lengths = right (proofLengths (length uid) (length key) (length b4) (length b5))
-
-    answer : ℕ
-    answer = messageAnswer lengths c 0 t a
-
-    same : answer ≡ messageAnswer lengths (saturated limit32 c) 0 (saturated 255 t) (saturated 255 a)
-    same =
-        sym (wide-answer lengths c 0 t a)
-        ∙ ap (λ (f : ℕ). messageAnswer lengths (saturated limit32 c) f (saturated 255 t) (saturated 255 a)) (fitting 255 0 (omega arith))
-
-    tests : (b : Bool) → eqb answer 0 ≡ b
-        → answerForm uid (saturated 255 t) (saturated 255 a) (saturated limit32 c) key b4 b5 ≡ answerForm uid t a c key b4 b5
-    tests true e = let fit = all-fit lengths c 0 t a (eqb-true answer 0 e) in rw (fit .0, fit .2, fit .3) refl
-    tests false e =
-        sym (proof-refused uid key b4 b5 _ _ _ answer same (eqb-false answer 0 e))
-        ∙ proof-refused uid key b4 b5 t a c answer refl (eqb-false answer 0 e)
+wide-proof uid key b4 b5 t a c =
+    let lengths = right (proofLengths (length uid) (length key) (length b4) (length b5)) in
+    let answer = messageAnswer lengths c 0 t a in
+    let same = sym (wide-answer lengths c 0 t a)
+    ∙ ap (λ (f : ℕ). messageAnswer lengths (saturated limit32 c) f (saturated 255 t) (saturated 255 a)) (fitting 255 0 (omega arith)) in
+    by-answer answer
+    (λ zero. let fit = all-fit lengths c 0 t a zero in rw (fit .0, fit .2, fit .3) refl)
+    (λ other. sym (proof-refused uid key b4 b5 _ _ _ answer same other) ∙ proof-refused uid key b4 b5 t a c answer refl other)
