@@ -3,8 +3,8 @@
 # A day in the yard: a C program over include/she.h. The library is proved before it is linked.
 demo:
 	@mkdir -p target/native
-	@sh tests/native-archive.sh board
-	@gcc -std=c99 -O2 -Wall -Wextra -Iinclude demo/yard.c target/native/libboard.a -o target/native/yard
+	@sh tests/native-archive.sh she
+	@gcc -std=c99 -O2 -Wall -Wextra -Iinclude demo/yard.c target/native/libshe.a -o target/native/yard
 	@target/native/yard
 
 # The gate.

@@ -88,7 +88,7 @@ static int is_proved(const struct receipt *back, const uint8_t *uid, uint32_t ta
                      const uint8_t *key)
 {
     struct receipt expected;
-    return she_write_answer(uid, SHE_UID, target, authority, counter, key, SHE_BLOCK, WHOLE(expected.m4), WHOLE(expected.m5)) == 0
+    return she_write_proof(uid, SHE_UID, target, authority, counter, key, SHE_BLOCK, WHOLE(expected.m4), WHOLE(expected.m5)) == 0
            && memcmp(back, &expected, sizeof expected) == 0;
 }
 
@@ -112,7 +112,7 @@ static void turned_away(const char *what, const struct letter *letter, enum she_
     memset(&blank, 0xaa, sizeof blank);
     step(what, deliver(&bus_12, letter, &back), wanted);
     note("board and receipt are as they were",
-         memcmp(&bus_12, &before, SHE_DEVICE_BYTES) == 0 && memcmp(&back, &blank, sizeof back) == 0);
+         memcmp(&bus_12, &before, sizeof before) == 0 && memcmp(&back, &blank, sizeof back) == 0);
 }
 
 /* ---- the day */

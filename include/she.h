@@ -1,7 +1,7 @@
 /* A software Secure Hardware Extension: AES-128, CBC, CMAC, key messages, and a device that holds keys and answers commands.
  *
- * C99, and usable from C++. Link with libboard.a; the library calls nothing but memcpy, memset and the like, keeps no state of
- * its own, and needs no setting up.
+ * C99, and usable from C++. Link with libshe.a; the library calls nothing but memcpy, memset and the like, keeps no state of its
+ * own, and needs no setting up.
  *
  * Every function returns an answer of enum she_answer. Any answer but SHE_NO_ERROR leaves the device and every lent buffer as
  * they were, and sets a verdict or a status beside it to 0. No slot number, length, counter, flag or state is too wrong to be
@@ -21,6 +21,9 @@
 #ifdef __cplusplus
 extern "C" {
 #endif
+
+/* The length of a lent buffer in bytes: 64 bits on every machine, also where a size_t has 32. */
+typedef uint64_t she_length;
 
 enum she_answer {
     SHE_NO_ERROR = 0,
@@ -53,6 +56,16 @@ enum she_slot {
 /* Flags of a slot, added up. */
 enum she_flag { SHE_WILDCARD = 1, SHE_KEY_USAGE = 2, SHE_DEBUGGER = 4, SHE_BOOT = 8, SHE_WRITE = 16, SHE_ALL_FLAGS = 31 };
 
+/* Marks of a device, each a byte: 1 for on, 0 for off. The places 4 to 6 mean nothing yet: she_make leaves them 0, and every other
+ * call leaves them as they are. */
+enum she_mark {
+    SHE_MARK_RANDOM = 0,   /* she_init_rng was called since reset */
+    SHE_MARK_PLAIN = 1,    /* RAM_KEY came in plain */
+    SHE_MARK_DEBUGGER = 2, /* a debugger is attached */
+    SHE_MARK_MADE = 3,     /* the device is made */
+    SHE_MARKS = 7
+};
+
 /* Bits of the status. */
 enum she_status_bit { SHE_STATUS_RANDOM = 32, SHE_STATUS_DEBUGGER = 64 };
 
@@ -63,14 +76,14 @@ enum {
     SHE_MAX_BLOCKS = 4096,         /* blocks that one CBC takes */
     SHE_MAX_BITS = 524288,         /* bits that one MAC takes */
     SHE_MAX_COUNTER = 268435455,   /* the largest counter of a key message */
-    SHE_DEVICE_BYTES = 397,        /* bytes of a device that mean something; three more fill it up */
+    SHE_DEVICE_BYTES = 400,        /* bytes of a device, which its parts fill without a gap */
     SHE_STACK_BYTES = 4096         /* room on the stack; 3,104 is the most that was measured, in she_load_key */
 };
 
-/* The device. It is lent to every command and changed in place, and it may be copied and stored as it is. To make one, hand any
- * record to she_make. Nothing in it is believed unseen: a record that breaks the rules of a made device (a mark that is neither 0
- * nor 1, a flag that its slot hasn't, an empty slot that isn't zero and the like) counts as not made, and every command answers
- * 12 to it. Its keys lie open in it: who can read it, has them. */
+/* The device. It is lent to every command and changed in place, and it may be copied, compared and stored as it is. To make one,
+ * hand any record to she_make. Nothing in it is believed unseen: a record that breaks the rules of a made device (a mark that is
+ * neither 0 nor 1, a flag that its slot hasn't, an empty slot that isn't zero and the like) counts as not made, and every command
+ * answers 12 to it. Its keys lie open in it: who can read it, has them. */
 struct she_device {
     uint8_t keys[16 * SHE_SLOTS];  /* sixteen bytes a slot */
     uint32_t counters[SHE_SLOTS];  /* SECRET_KEY and RAM_KEY have none, and 0 here */
@@ -80,62 +93,65 @@ struct she_device {
     uint8_t seed[SHE_BLOCK];       /* of the random numbers; outlives a reset */
     uint8_t state[SHE_BLOCK];      /* zero, as the next, before she_init_rng */
     uint8_t rngkey[SHE_BLOCK];
-    uint8_t rng;                   /* 1: she_init_rng was called since reset */
-    uint8_t plain;                 /* 1: RAM_KEY came in plain */
-    uint8_t debugger;              /* 1: a debugger is attached */
-    uint8_t made;                  /* 1: made */
+    uint8_t marks[SHE_MARKS];      /* in the places of enum she_mark */
 };
 
 /* ---- algorithms. Answers: 12 for a wrong length */
 
 /* One block under a key: 16 bytes of each in, 16 out. */
-uint8_t she_aes_encrypt(const uint8_t *key, size_t key_len, const uint8_t *block, size_t block_len, uint8_t *out, size_t out_len);
-uint8_t she_aes_decrypt(const uint8_t *key, size_t key_len, const uint8_t *block, size_t block_len, uint8_t *out, size_t out_len);
+uint8_t she_aes_encrypt(const uint8_t *key, she_length key_len, const uint8_t *block, she_length block_len,
+                        uint8_t *out, she_length out_len);
+uint8_t she_aes_decrypt(const uint8_t *key, she_length key_len, const uint8_t *block, she_length block_len,
+                        uint8_t *out, she_length out_len);
 
 /* CBC of 1 to 4,096 blocks: a key and an IV of 16 bytes, and the output as long as the input. */
-uint8_t she_cbc_encrypt(const uint8_t *key, size_t key_len, const uint8_t *iv, size_t iv_len, const uint8_t *in, size_t in_len,
-                        uint8_t *out, size_t out_len);
-uint8_t she_cbc_decrypt(const uint8_t *key, size_t key_len, const uint8_t *iv, size_t iv_len, const uint8_t *in, size_t in_len,
-                        uint8_t *out, size_t out_len);
+uint8_t she_cbc_encrypt(const uint8_t *key, she_length key_len, const uint8_t *iv, she_length iv_len,
+                        const uint8_t *in, she_length in_len, uint8_t *out, she_length out_len);
+uint8_t she_cbc_decrypt(const uint8_t *key, she_length key_len, const uint8_t *iv, she_length iv_len,
+                        const uint8_t *in, she_length in_len, uint8_t *out, she_length out_len);
 
 /* CMAC of the first `bits` bits of a message, 0 to 524,288. The message lent has 16 * max(1, bits / 128 rounded up) bytes, of
  * which those after `bits` don't count; 16 bytes out. */
-uint8_t she_cmac(const uint8_t *key, size_t key_len, uint64_t bits, const uint8_t *message, size_t message_len, uint8_t *out,
-                 size_t out_len);
+uint8_t she_cmac(const uint8_t *key, she_length key_len, uint64_t bits, const uint8_t *message, she_length message_len,
+                 uint8_t *out, she_length out_len);
 
 /* SHE's key derivation: a key and a constant of 16 bytes, 16 bytes out. */
-uint8_t she_kdf(const uint8_t *key, size_t key_len, const uint8_t *constant, size_t constant_len, uint8_t *out, size_t out_len);
+uint8_t she_kdf(const uint8_t *key, she_length key_len, const uint8_t *constant, she_length constant_len,
+                uint8_t *out, she_length out_len);
 
 /* ---- key messages, for the sender. Answers: 12 for a wrong length, a counter above 268,435,455 or flags above 31; 3 for a slot
  * or a pair of slots that isn't allowed */
 
 /* M1 (16 bytes), M2 (32) and M3 (16), which bring new_key (16) into the slot `target` of the board with this UID (15; zeros: of
  * any board), under the key (16) of the slot `authority`. Flags are those of enum she_flag, added. */
-uint8_t she_write_key(const uint8_t *uid, size_t uid_len, uint32_t target, uint32_t authority, const uint8_t *authority_key,
-                      size_t authority_key_len, uint64_t counter, uint32_t flags, const uint8_t *new_key, size_t new_key_len,
-                      uint8_t *m1, size_t m1_len, uint8_t *m2, size_t m2_len, uint8_t *m3, size_t m3_len);
+uint8_t she_write_key(const uint8_t *uid, she_length uid_len, uint32_t target, uint32_t authority,
+                      const uint8_t *authority_key, she_length authority_key_len, uint64_t counter, uint32_t flags,
+                      const uint8_t *new_key, she_length new_key_len, uint8_t *m1, she_length m1_len,
+                      uint8_t *m2, she_length m2_len, uint8_t *m3, she_length m3_len);
 
 /* The same without flags. */
-uint8_t she_write_key_short(const uint8_t *uid, size_t uid_len, uint32_t target, uint32_t authority, const uint8_t *authority_key,
-                            size_t authority_key_len, uint64_t counter, const uint8_t *new_key, size_t new_key_len, uint8_t *m1,
-                            size_t m1_len, uint8_t *m2, size_t m2_len, uint8_t *m3, size_t m3_len);
+uint8_t she_write_key_short(const uint8_t *uid, she_length uid_len, uint32_t target, uint32_t authority,
+                            const uint8_t *authority_key, she_length authority_key_len, uint64_t counter,
+                            const uint8_t *new_key, she_length new_key_len, uint8_t *m1, she_length m1_len,
+                            uint8_t *m2, she_length m2_len, uint8_t *m3, she_length m3_len);
 
 /* The same without a UID: one message for every board. */
-uint8_t she_fleet_sheet(uint32_t target, uint32_t authority, const uint8_t *authority_key, size_t authority_key_len, uint64_t counter,
-                        const uint8_t *new_key, size_t new_key_len, uint8_t *m1, size_t m1_len, uint8_t *m2, size_t m2_len,
-                        uint8_t *m3, size_t m3_len);
+uint8_t she_fleet_sheet(uint32_t target, uint32_t authority, const uint8_t *authority_key, she_length authority_key_len,
+                        uint64_t counter, const uint8_t *new_key, she_length new_key_len, uint8_t *m1, she_length m1_len,
+                        uint8_t *m2, she_length m2_len, uint8_t *m3, she_length m3_len);
 
-/* M4 (32 bytes) and M5 (16), which the board with this UID (15) answers when it takes such a message: what the sender compares
- * with the board's. */
-uint8_t she_write_answer(const uint8_t *uid, size_t uid_len, uint32_t target, uint32_t authority, uint64_t counter,
-                         const uint8_t *new_key, size_t new_key_len, uint8_t *m4, size_t m4_len, uint8_t *m5, size_t m5_len);
+/* The proof, M4 (32 bytes) and M5 (16), with which the board with this UID (15) shows that it took such a message: what the sender
+ * compares with the board's own. */
+uint8_t she_write_proof(const uint8_t *uid, she_length uid_len, uint32_t target, uint32_t authority, uint64_t counter,
+                        const uint8_t *new_key, she_length new_key_len, uint8_t *m4, she_length m4_len,
+                        uint8_t *m5, she_length m5_len);
 
 /* ---- the device. Every command answers 12 to a device that isn't made and to a wrong length, and then what is named beside it */
 
 /* Makes a device anew, whatever the record held: a UID of 15 bytes that aren't all zero, a SECRET_KEY and a seed of 16. A
  * refusal (12) leaves the record as it was. */
-uint8_t she_make(struct she_device *device, const uint8_t *uid, size_t uid_len, const uint8_t *secret_key, size_t secret_key_len,
-                 const uint8_t *seed, size_t seed_len);
+uint8_t she_make(struct she_device *device, const uint8_t *uid, she_length uid_len,
+                 const uint8_t *secret_key, she_length secret_key_len, const uint8_t *seed, she_length seed_len);
 
 /* What loss of power does: RAM_KEY, the random numbers and the debugger's mark go; all else stays. */
 uint8_t she_reset(struct she_device *device);
@@ -144,53 +160,55 @@ uint8_t she_reset(struct she_device *device);
 uint8_t she_attach_debugger(struct she_device *device);
 
 /* One block with the key of a slot (KEY_n with KEY_USAGE 0, RAM_KEY): 16 bytes in and out. Answers: 3, 4, 2. */
-uint8_t she_enc_ecb(struct she_device *device, uint32_t slot, const uint8_t *in, size_t in_len, uint8_t *out, size_t out_len);
-uint8_t she_dec_ecb(struct she_device *device, uint32_t slot, const uint8_t *in, size_t in_len, uint8_t *out, size_t out_len);
+uint8_t she_enc_ecb(struct she_device *device, uint32_t slot, const uint8_t *in, she_length in_len,
+                    uint8_t *out, she_length out_len);
+uint8_t she_dec_ecb(struct she_device *device, uint32_t slot, const uint8_t *in, she_length in_len,
+                    uint8_t *out, she_length out_len);
 
 /* CBC with the key of such a slot: an IV of 16 bytes, 1 to 4,096 blocks, the output as long as the input. Answers: 3, 4, 2. */
-uint8_t she_enc_cbc(struct she_device *device, uint32_t slot, const uint8_t *iv, size_t iv_len, const uint8_t *in, size_t in_len,
-                    uint8_t *out, size_t out_len);
-uint8_t she_dec_cbc(struct she_device *device, uint32_t slot, const uint8_t *iv, size_t iv_len, const uint8_t *in, size_t in_len,
-                    uint8_t *out, size_t out_len);
+uint8_t she_enc_cbc(struct she_device *device, uint32_t slot, const uint8_t *iv, she_length iv_len,
+                    const uint8_t *in, she_length in_len, uint8_t *out, she_length out_len);
+uint8_t she_dec_cbc(struct she_device *device, uint32_t slot, const uint8_t *iv, she_length iv_len,
+                    const uint8_t *in, she_length in_len, uint8_t *out, she_length out_len);
 
 /* CMAC with the key of a slot (KEY_n with KEY_USAGE 1, RAM_KEY); lengths as for she_cmac, 16 bytes out. Answers: 3, 4, 2. */
-uint8_t she_generate_mac(struct she_device *device, uint32_t slot, uint64_t bits, const uint8_t *message, size_t message_len,
-                         uint8_t *mac, size_t mac_len);
+uint8_t she_generate_mac(struct she_device *device, uint32_t slot, uint64_t bits, const uint8_t *message, she_length message_len,
+                         uint8_t *mac, she_length mac_len);
 
 /* Whether a MAC of 16 bytes is that of a message, in its first mac_bits bits (0: all 128; up to 127), with the key of such a slot
  * or of BOOT_MAC_KEY. *verdict becomes 1 for yes, and 0 for no and for any refusal. Answers: 3, 4, 2. */
-uint8_t she_verify_mac(struct she_device *device, uint32_t slot, uint64_t bits, const uint8_t *message, size_t message_len,
-                       const uint8_t *mac, size_t mac_len, uint32_t mac_bits, uint8_t *verdict);
+uint8_t she_verify_mac(struct she_device *device, uint32_t slot, uint64_t bits, const uint8_t *message, she_length message_len,
+                       const uint8_t *mac, she_length mac_len, uint32_t mac_bits, uint8_t *verdict);
 
-/* Takes a key message: M1 (16 bytes), M2 (32) and M3 (16) in; M4 (32) and M5 (16), for the sender, out. Answers: 3 for a pair that
- * isn't allowed, 6 for a target with WRITE set, 4 and 2 for an authority that is empty (and not the target itself) or locked, 7
- * for a message that is forged, for another board, or not newer. */
-uint8_t she_load_key(struct she_device *device, const uint8_t *m1, size_t m1_len, const uint8_t *m2, size_t m2_len, const uint8_t *m3,
-                     size_t m3_len, uint8_t *m4, size_t m4_len, uint8_t *m5, size_t m5_len);
+/* Takes a key message: M1 (16 bytes), M2 (32) and M3 (16) in; the proof for the sender, M4 (32) and M5 (16), out. Answers: 3 for a
+ * pair that isn't allowed, 6 for a target with WRITE set, 4 and 2 for an authority that is empty (and not the target itself) or
+ * locked, 7 for a message that is forged, for another board, or not newer. */
+uint8_t she_load_key(struct she_device *device, const uint8_t *m1, she_length m1_len, const uint8_t *m2, she_length m2_len,
+                     const uint8_t *m3, she_length m3_len, uint8_t *m4, she_length m4_len, uint8_t *m5, she_length m5_len);
 
 /* A key of 16 bytes into RAM_KEY, as plain. */
-uint8_t she_load_plain_key(struct she_device *device, const uint8_t *key, size_t key_len);
+uint8_t she_load_plain_key(struct she_device *device, const uint8_t *key, she_length key_len);
 
 /* RAM_KEY, if it was loaded plain, as a key message of 16, 32, 16, 32 and 16 bytes that this device will take again. Answers: 4
  * for no key, 3 for one that isn't plain. */
-uint8_t she_export_ram_key(struct she_device *device, uint8_t *m1, size_t m1_len, uint8_t *m2, size_t m2_len, uint8_t *m3,
-                           size_t m3_len, uint8_t *m4, size_t m4_len, uint8_t *m5, size_t m5_len);
+uint8_t she_export_ram_key(struct she_device *device, uint8_t *m1, she_length m1_len, uint8_t *m2, she_length m2_len,
+                           uint8_t *m3, she_length m3_len, uint8_t *m4, she_length m4_len, uint8_t *m5, she_length m5_len);
 
 /* Starts the random numbers, once after each reset. Answers: 1 for a second time. */
 uint8_t she_init_rng(struct she_device *device);
 
 /* Stirs 16 bytes into the random numbers. Answers: 8 before she_init_rng. */
-uint8_t she_extend_seed(struct she_device *device, const uint8_t *entropy, size_t entropy_len);
+uint8_t she_extend_seed(struct she_device *device, const uint8_t *entropy, she_length entropy_len);
 
 /* The next 16 random bytes. Answers: 8 before she_init_rng. */
-uint8_t she_rnd(struct she_device *device, uint8_t *out, size_t out_len);
+uint8_t she_rnd(struct she_device *device, uint8_t *out, she_length out_len);
 
 /* The status, of enum she_status_bit; *status becomes 0 where this is refused. */
 uint8_t she_get_status(struct she_device *device, uint8_t *status);
 
 /* The UID, the status and a MAC of a challenge (16 bytes) and these under MASTER_ECU_KEY, 32 bytes; the MAC is zeros while there is
  * no such key. Answers: 2. */
-uint8_t she_get_id(struct she_device *device, const uint8_t *challenge, size_t challenge_len, uint8_t *out, size_t out_len);
+uint8_t she_get_id(struct she_device *device, const uint8_t *challenge, she_length challenge_len, uint8_t *out, she_length out_len);
 
 /* The record's layout is the library's. */
 #if defined(__cplusplus) && __cplusplus >= 201103L
@@ -200,7 +218,7 @@ uint8_t she_get_id(struct she_device *device, const uint8_t *challenge, size_t c
 #else
 #define SHE_LAYOUT(what, holds) typedef char she_layout_of_##what[(holds) ? 1 : -1]
 #endif
-SHE_LAYOUT(size, sizeof(struct she_device) == SHE_DEVICE_BYTES + 3);
+SHE_LAYOUT(size, sizeof(struct she_device) == SHE_DEVICE_BYTES);
 SHE_LAYOUT(keys, offsetof(struct she_device, keys) == 0);
 SHE_LAYOUT(counters, offsetof(struct she_device, counters) == 240);
 SHE_LAYOUT(flags, offsetof(struct she_device, flags) == 300);
@@ -209,11 +227,7 @@ SHE_LAYOUT(uid, offsetof(struct she_device, uid) == 330);
 SHE_LAYOUT(seed, offsetof(struct she_device, seed) == 345);
 SHE_LAYOUT(state, offsetof(struct she_device, state) == 361);
 SHE_LAYOUT(rngkey, offsetof(struct she_device, rngkey) == 377);
-SHE_LAYOUT(rng, offsetof(struct she_device, rng) == 393);
-SHE_LAYOUT(plain, offsetof(struct she_device, plain) == 394);
-SHE_LAYOUT(debugger, offsetof(struct she_device, debugger) == 395);
-SHE_LAYOUT(made, offsetof(struct she_device, made) == 396);
-SHE_LAYOUT(pointers, sizeof(size_t) == 8);
+SHE_LAYOUT(marks, offsetof(struct she_device, marks) == 393);
 #undef SHE_LAYOUT
 
 #ifdef __cplusplus

@@ -691,7 +691,7 @@ static uint8_t (*on_stack)(void), answer, byte; /* what is called, its answer, a
     CALL(she_write_key, fresh, uid, 15, SHE_KEY_1, SHE_MASTER_ECU_KEY, master, 16, 1, SHE_ALL_FLAGS, key, 16, THREE)        \
     CALL(she_write_key_short, fresh, uid, 15, SHE_KEY_1, SHE_MASTER_ECU_KEY, master, 16, 1, key, 16, THREE)                 \
     CALL(she_fleet_sheet, fresh, SHE_KEY_1, SHE_MASTER_ECU_KEY, master, 16, 1, key, 16, THREE)                              \
-    CALL(she_write_answer, fresh, uid, 15, SHE_KEY_1, SHE_MASTER_ECU_KEY, 1, key, 16, PROOF)                                \
+    CALL(she_write_proof, fresh, uid, 15, SHE_KEY_1, SHE_MASTER_ECU_KEY, 1, key, 16, PROOF)                                 \
     CALL(she_make, fresh, &device, uid, 15, key, 16, iv, 16)                                                                \
     CALL(she_reset, started, &device)                                                                                       \
     CALL(she_attach_debugger, fresh, &device)                                                                               \

@@ -14,8 +14,8 @@ if [ -n "$missing" ]; then
     apt-get install -y -qq $missing >/dev/null
 fi
 sh tests/native-archive.sh bench >&2
-sh tests/native-archive.sh board >&2
-library=target/native/libboard.a
+sh tests/native-archive.sh she >&2
+library=target/native/libshe.a
 tables=target/native/bench.md
 gcc -O2 -Wall -Wextra -Werror -Iinclude -o target/native/bench tests/bench.c target/native/libbench.a "$library" \
     -lbearssl -ltomcrypt
@@ -49,7 +49,7 @@ done
 
 calls=$(nm -u "$library" | awk 'NF == 2 { print $2 }' | sort -u | paste -s -d ' ' -)
 echo
-echo "| \`libboard.a\`, built for this processor | bytes |"
+echo "| \`libshe.a\`, built for this processor | bytes |"
 echo '|---|--:|'
 size -A "$library" | awk '
     /^\.text/ { text += $(NF - 1) }
@@ -58,7 +58,7 @@ size -A "$library" | awk '
     /^\.bss/ { bss += $(NF - 1) }
     END { printf "| text | %d |\n| rodata | %d |\n| data | %d |\n| bss | %d |\n", text, rodata, data, bss }'
 echo
-echo "Symbols that \`libboard.a\` leaves to the program: $calls"
+echo "Symbols that \`libshe.a\` leaves to the program: $calls"
 for call in $calls; do
     case $call in
     memcpy | memset | memmove | memcmp | bcmp) ;;

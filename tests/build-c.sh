@@ -5,7 +5,7 @@ set -eu
 cd "$(dirname "$0")/.."
 out=target/native
 PATH=$PATH:${CARGO_HOME:-$HOME/.cargo}/bin # where rustup puts rustc
-sh tests/native-archive.sh board
+sh tests/native-archive.sh she
 warnings="-Wall -Wextra -Wpedantic -Werror"
 checkers="-g -O1 -fsanitize=address,undefined -fno-sanitize-recover=all"
 rustc --edition 2021 -O -C panic=abort --crate-type staticlib -D warnings tests/second/lib.rs -o "$out/libsecond.a"
@@ -14,7 +14,7 @@ compile() { # PROGRAM FLAGS SOURCE.. : every word of the flags by itself
     program=$1 flags=$2
     shift 2
     # shellcheck disable=SC2086
-    gcc -std=c99 $warnings $flags -Iinclude "$@" "$out/libboard.a" "$out/libsecond.a" -lpthread -ldl -lm -o "$out/$program"
+    gcc -std=c99 $warnings $flags -Iinclude "$@" "$out/libshe.a" "$out/libsecond.a" -lpthread -ldl -lm -o "$out/$program"
 }
 compile yard -O2 demo/yard.c
 compile yard-checked "$checkers" demo/yard.c

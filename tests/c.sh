@@ -20,7 +20,7 @@ run() { # NAME COMMAND..: passes where the status is 0
     fi
 }
 
-# The header alone, in every language that may include it.
+# The header alone, in every language that may include it, and for a controller of 32 bits where clang is there.
 header() {
     for language in c99 c11 c17; do
         echo '#include "she.h"' | gcc -std=$language -Wall -Wextra -Wpedantic -Werror -Iinclude -x c -fsyntax-only - || return 1
@@ -28,12 +28,18 @@ header() {
     for language in c++98 c++11 c++17; do
         echo '#include "she.h"' | g++ -std=$language -Wall -Wextra -Wpedantic -Werror -Iinclude -x c++ -fsyntax-only - || return 1
     done
-    echo "she.h compiles as C99, C11, C17, C++98, C++11 and C++17"
+    small=
+    if command -v clang >/dev/null; then
+        echo '#include "she.h"' | clang --target=thumbv7m-none-eabi -ffreestanding -std=c99 -Wall -Wextra -Wpedantic -Werror \
+            -Iinclude -x c -fsyntax-only - || return 1
+        small=", and for a controller of 32 bits"
+    fi
+    echo "she.h compiles as C99, C11, C17, C++98, C++11 and C++17$small"
 }
 
 # The library asks for nothing of the program that it is linked into, but what every compiler may ask for.
 symbols() {
-    nm -u "$out/libboard.a" | sed -n 's/^ *U //p' | sort -u >"$out/undefined"
+    nm -u "$out/libshe.a" | sed -n 's/^ *U //p' | sort -u >"$out/undefined"
     if grep -v -x -e memcpy -e memset -e memmove -e memcmp -e bcmp "$out/undefined"; then
         return 1
     fi
@@ -43,8 +49,8 @@ symbols() {
 # The README's example is a whole program, and does what it says, as C and as C++.
 readme() {
     sed -n '/^```c$/,/^```$/p' README.md | grep -v '^```' >"$out/readme.c"
-    gcc -std=c99 -Wall -Wextra -Wpedantic -Werror -Iinclude "$out/readme.c" "$out/libboard.a" -o "$out/readme" || return 1
-    g++ -std=c++11 -Wall -Wextra -Wpedantic -Werror -Iinclude -x c++ "$out/readme.c" -x none "$out/libboard.a" \
+    gcc -std=c99 -Wall -Wextra -Wpedantic -Werror -Iinclude "$out/readme.c" "$out/libshe.a" -o "$out/readme" || return 1
+    g++ -std=c++11 -Wall -Wextra -Wpedantic -Werror -Iinclude -x c++ "$out/readme.c" -x none "$out/libshe.a" \
         -o "$out/readme++" || return 1
     [ "$("$out/readme")" = "$("$out/readme++")" ] && "$out/readme"
 }

@@ -1,6 +1,7 @@
 """Plays the lines of the proved program `cases` on the second program's device, and prints what it must write.
 
-cases.py <crates/cases/stdin >crates/cases/stdout. The lines are explained in that program; no answer stands in them or here.
+cases.py <crates/cases/stdin >crates/cases/stdout. The lines, and what is written after them, are explained in that program; no
+answer stands in them or here.
 """
 
 import copy
@@ -67,15 +68,19 @@ def changed(data, bit):
     return value.to_bytes(len(data), "big")
 
 
-def slot_image(slot):
-    return slot.key + slot.counter.to_bytes(4, "big") + bytes([slot.number(), slot.empty]) + bytes(10)
-
-
-def image(device):
-    """The record in rows of 16 bytes."""
-    marks = bytes([device.initialised, device.plain, device.debugger, device.made])
-    slots = b"".join(slot_image(slot) for slot in device.slots)
-    return slots + device.uid + bytes(1) + device.seed + device.state + device.random_key + marks + bytes(12)
+def fields(device):
+    """The record by the names of what it holds; each is a row of it."""
+    held = {}
+    for number, slot in enumerate(device.slots):
+        held[f"key {number}"] = slot.key
+        held[f"slot {number}"] = slot.counter.to_bytes(4, "big") + bytes([slot.number(), slot.empty])
+    return held | {
+        "UID": device.uid,
+        "seed": device.seed,
+        "state": device.state,
+        "random key": device.random_key,
+        "marks": device.marks(),
+    }
 
 
 def hexa(data):
@@ -89,29 +94,32 @@ def named(answer):
     return f": {answer} {NAMES[answer]}"
 
 
-def record(device):
-    return f", record {hexa(second.compressed(bytes(16), image(device)))}"
+def change(before, after):
+    """The fields in which a device differs from the one before."""
+    old = fields(before)
+    new = [f", {name} {hexa(value)}" for name, value in fields(after).items() if value != old[name]]
+    return "".join(new) or ", no change"
 
 
-def changes(answer, same, clean, reads):
-    kept = ", nothing changed" if answer and same and clean else ""
-    return kept + ", CHANGED" * bool((answer and not (same and clean)) or (reads and not same))
+def kept(answer, same, clean, reads):
+    unchanged = ", nothing changed" if answer and same and clean else ""
+    return unchanged + ", CHANGED" * bool((answer and not (same and clean)) or (reads and not same))
 
 
 def finish(bench, answer, after, reads, clean=True, shown=b""):
     print(named(answer), end="")
     if not answer:
-        print(f", {hexa(shown)}" * bool(shown) + ("" if reads else record(after)), end="")
-    print(changes(answer, bench.device == after, clean, reads))
+        print(f", {hexa(shown)}" * bool(shown) + ("" if reads else change(bench.device, after)), end="")
+    print(kept(answer, bench.device == after, clean, reads))
     bench.device = after
 
 
 def finish_number(bench, answer, after, given):
-    print(f"{named(answer)}, gives {given}{changes(answer, bench.device == after, True, True)}")
+    print(f"{named(answer)}, gives {given}{kept(answer, bench.device == after, True, True)}")
     bench.device = after
 
 
-def change(bench, command, *given):
+def perform(bench, command, *given):
     """A command that has no output besides the device."""
     after = copy.deepcopy(bench.device)
     answer = command(after, *given)
@@ -248,24 +256,29 @@ def export_ram_key(bench, n):
 # ---- devices
 
 
+def finish_new(bench, told, device):
+    """The end of a line that makes the device anew."""
+    print(told + change(bench.device, device))
+    bench.device = device
+
+
 def make(bench, n):
     uid, secret, seed = lent(UIDS[n[0]], n[1]), lent(changed(SECRET, n[4]), n[2]), lent(SEED, n[3])
-    answer, bench.device = second.make(uid, secret, seed)
-    print(named(answer) + record(bench.device))
+    answer, device = second.make(uid, secret, seed)
+    finish_new(bench, named(answer), device)
 
 
 def prepare(bench, n):
-    print()
-    bench.device = second.make(UIDS[1], SECRET, SEED)[1]
+    device = second.make(UIDS[1], SECRET, SEED)[1]
     for slot in range(1, n[0] + 1):
-        bench.device = loaded(bench.device, written(bench.device, slot, 1, 1, n[1]))[0]
+        device = loaded(device, written(device, slot, 1, 1, n[1]))[0]
+    finish_new(bench, ": made", device)
 
 
 def with_byte(data, at, value):
     return data[:at] + bytes([value]) + data[at + 1 :]
 
 
-MARKS = {8: "initialised", 9: "plain", 10: "debugger", 11: "made"}
 BLOCKS = {4: "uid", 5: "seed", 6: "state", 7: "random_key"}
 
 
@@ -273,9 +286,7 @@ def damage(bench, n):
     print()
     field, at, value = n[:3]
     device = copy.deepcopy(bench.device)
-    if field in MARKS:
-        setattr(device, MARKS[field], value)
-    elif field in BLOCKS:
+    if field in BLOCKS:
         setattr(device, BLOCKS[field], with_byte(getattr(device, BLOCKS[field]), at, value))
     elif field == 0:
         slot = device.slots[at // 16 % 15]
@@ -284,15 +295,19 @@ def damage(bench, n):
         device.slots[at].counter = value
     elif field == 2:
         device.slots[at].flags = frozenset(name for name, bit in second.FLAGS.items() if value & bit)
-    else:
+    elif field == 3:
         device.slots[at].empty = value
+    else:
+        marks = with_byte(device.marks(), at, value)
+        device.initialised, device.plain, device.debugger, device.made = marks[:4]
+        device.others = marks[4:]
     bench.device = device
 
 
 def show_record(bench, n):
     print()
-    for row in range(n[0], n[1]):
-        print(f"row {row}: {hexa(image(bench.device)[16 * row : 16 * row + 16])}")
+    for row, value in list(enumerate(fields(bench.device).values()))[n[0] : n[1]]:
+        print(f"row {row}: {hexa(value.ljust(16, bytes(1)))}")
 
 
 # ---- lines
@@ -300,13 +315,13 @@ def show_record(bench, n):
 
 COMMANDS = {
     "VERIFY_MAC": verify_mac,
-    "RESET": lambda bench, n: change(bench, second.Device.reset),
-    "DEBUGGER": lambda bench, n: change(bench, second.Device.attach_debugger),
-    "INIT_RNG": lambda bench, n: change(bench, second.Device.init_rng),
+    "RESET": lambda bench, n: perform(bench, second.Device.reset),
+    "DEBUGGER": lambda bench, n: perform(bench, second.Device.attach_debugger),
+    "INIT_RNG": lambda bench, n: perform(bench, second.Device.init_rng),
     "GET_STATUS": get_status,
-    "EXTEND_SEED": lambda bench, n: change(bench, second.Device.extend_seed, lent(ENTROPY, n[0])),
+    "EXTEND_SEED": lambda bench, n: perform(bench, second.Device.extend_seed, lent(ENTROPY, n[0])),
     "RND": rnd,
-    "LOAD_PLAIN_KEY": lambda bench, n: change(bench, second.Device.load_plain_key, lent(slot_key(n[0]), n[1])),
+    "LOAD_PLAIN_KEY": lambda bench, n: perform(bench, second.Device.load_plain_key, lent(slot_key(n[0]), n[1])),
     "GET_ID": get_id,
     "LOAD_KEY": load_key,
     "EXPORT_RAM_KEY": export_ram_key,

@@ -196,11 +196,11 @@ def form(take):
     return line, buffers(second.write_key(uid, target, authority, secret, count, flags, key, m1, m2, m3))
 
 
-def answer(take):
+def proof(take):
     uid, key, m4, m5 = lent(take, 15, 16, 32, 16)
     (target, authority), count = pair(), counter()
     line = f"A {uid.hex()} / {number(target)} / {number(authority)} / {number(count)} / {key.hex()} / {m4.hex()} / {m5.hex()}"
-    return line, buffers(second.write_answer(uid, target, authority, count, key, m4, m5))
+    return line, buffers(second.write_proof(uid, target, authority, count, key, m4, m5))
 
 
 def one_bit_other(data):
@@ -220,14 +220,15 @@ def opening(take):
     ])
     data = [secret, *second.sealed(secret, take(16), first + take(16))]
     which = random.randrange(4)
-    data[which] = random.choice([data[which], data[which], data[which], one_bit_other(data[which]), data[which][:-1], data[which] + b"\0"])
+    right = data[which]
+    data[which] = random.choice([right, right, right, one_bit_other(right), right[:-1], right + b"\0"])
     genuine, count, flags, zeros, key = second.open_messages(*data)
     line = "O " + " / ".join(part.hex() for part in data)
     return line, [f"{genuine:02x}", f"{count:08x}", f"{flags:02x}{zeros:02x}", key.hex()]
 
 
 def message():
-    return random.choice([form, form, answer, opening])(random.choice([random_bytes, extreme_bytes]))
+    return random.choice([form, form, proof, opening])(random.choice([random_bytes, extreme_bytes]))
 
 
 def every_slot():
@@ -238,7 +239,12 @@ def every_slot():
             yield f"P{target:02x}/{authority:02x}", rows(second.slot(target, authority))
 
 
-MAKERS = {"random": lambda: valid(random_bytes), "extreme": lambda: valid(extreme_bytes), "damaged": damaged, "message": message}
+MAKERS = {
+    "random": lambda: valid(random_bytes),
+    "extreme": lambda: valid(extreme_bytes),
+    "damaged": damaged,
+    "message": message,
+}
 LONG = 8
 
 

@@ -4,9 +4,9 @@
 Of every function that another crate or C can call: it has a row in the table of promises, its contract has no `requires`, the
 definition that its contract equates the outcome with is the one that the row names, in the file that the row names, and at least
 two wrong programs are named. Every one that the table names is an edit that is there, and every edit that is there is named.
-Every theorem that a table names is in its file. The definitions that `step` of crate `demands` gives its calls are those that
-the commands promise, by value and in place, so that a theorem about `step` is one about the code, and about all of it. And
-include/she.h declares what crate `board` exports, and nothing else.
+Every theorem that a table names is in its file. The accounts in the table of crate `demands` are those that the commands promise
+to perform, by value and in place, so that a theorem about the calls is one about the code, and about all of it. And include/she.h
+declares what crate `she` exports, and nothing else.
 
 Writes each fault that it finds, and how much it looked at. The status is 0 only where there is no fault.
 """
@@ -90,7 +90,7 @@ def hold_promises(routines):
     for (crate, name), head in routines.items():
         check((crate, name) in told, f"{crate}::{name} has no row in PROMISES.md")
         check("requires" not in head, f"{crate}::{name} has a precondition")
-        promised = re.findall(r"≡ \(?([^\s()]+)", head)
+        promised = re.findall(r"≡ (?:perform )?\(?([^\s()]+)", head)
         check(promised, f"{crate}::{name} promises no equation")
         definition = told.get((crate, name), "")
         row = quoted(definition)[:1]
@@ -123,26 +123,27 @@ def hold_theorems():
 
 
 def hold_calls(routines):
-    """`step` and the routines that promise an outcome have the same definitions, by value and in place; making alone is no call"""
+    """the table of accounts and the routines that promise an outcome have the same definitions, by value and in place; making
+    alone is no call"""
     calls = (CRATES / "demands/specs/Calls.antt").read_text()
-    steps = set(re.findall(r"^step n d .* = (?:commands\.)?(\w+) (?:n )?d\b", calls, re.M))
-    for crates, making in ((("commands", "load"), "make"), (("board",), "makeAnew")):
+    accounts = set(re.findall(r"^account n .* = (?:commands\.)?(\w+)", calls, re.M))
+    for crates, making in ((("commands", "load"), "make"), (("she",), "makeAnew")):
         heads = [head for (crate, _), head in routines.items() if crate in crates]
-        promised = {name for head in heads for name in re.findall(r"outcome .* ≡ (\w+)", head)}
-        for definition in (steps | {making}) - promised:
+        promised = {name for head in heads for name in re.findall(r"outcome .* ≡ (?:perform )?\(?(\w+)", head)}
+        for definition in (accounts | {making}) - promised:
             check(False, f"no routine of {', '.join(crates)} promises {definition}")
-        for definition in promised - steps - {making}:
-            check(False, f"a routine of {', '.join(crates)} promises {definition}, which is the definition of no call")
-    return len(steps)
+        for definition in promised - accounts - {making}:
+            check(False, f"a routine of {', '.join(crates)} promises {definition}, which is the account of no call")
+    return len(accounts)
 
 
 def hold_header(routines):
-    """every routine of crate `board` is declared in include/she.h, with as many parameters, and nothing else is"""
+    """every routine of crate `she` is declared in include/she.h, with as many parameters, and nothing else is"""
     header = (ROOT / "include" / "she.h").read_text()
     declared = dict(re.findall(r"^uint8_t (she_\w+)\(([^)]*)\);", header, re.M))
-    exported = {name: head for (crate, name), head in routines.items() if crate == "board"}
+    exported = {name: head for (crate, name), head in routines.items() if crate == "she"}
     for name in declared.keys() ^ exported.keys():
-        check(False, f"{name} is in one of she.h and crate board only")
+        check(False, f"{name} is in one of she.h and crate she only")
     for name in declared.keys() & exported.keys():
         parameters = exported[name].partition(") -> u8")[0]
         # a slice is a pointer and a length

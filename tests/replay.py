@@ -1,4 +1,4 @@
-"""Random days of a device: plays the same lines on the proved program `cases` and on the second one, and compares what they write.
+"""Random days of a device: plays the same lines on the proved program `cases` and on the second one, and compares them.
 
 replay.py COMMAND..: COMMAND runs the program, which reads lines and writes lines. The seed is fixed, so that a run can be had
 again.
@@ -45,8 +45,8 @@ def mac(rng):
     edge = rng.choice([NONE, NONE, compared, (compared or 128) - 1, rng.randrange(128)])
     late = rng.choice([NONE, NONE, bits, max(bits, 1) - 1])
     by = rng.choice([number, number, number, slot(rng)])
-    asked = f"VERIFY_MAC with slot {by}, {length(rng, size)} bytes, MAC of {length(rng, 16)}, {bits} bits, MAC length {compared}"
-    return f"{made}\n{asked}, bit {edge} changed, bit {late} of the message"
+    asked = f"VERIFY_MAC with slot {by}, {length(rng, size)} bytes, MAC of {length(rng, 16)}, {bits} bits"
+    return f"{made}\n{asked}, MAC length {compared}, bit {edge} changed, bit {late} of the message"
 
 
 def load(rng):

@@ -1,4 +1,4 @@
-"""A second AES-128, written from FIPS 197 apart from the first, to compare it with; on it the modes, key messages and the device.
+"""A second AES-128, written from FIPS 197 apart from the first, to compare it with; on it modes, key messages and the device.
 
 It shares nothing with the proved one: the field goes by logarithms to the base {03}, the state is four rows of four, the
 S-box is made from the field when the program starts, and the inverse cipher undoes the cipher's steps from the last to the
@@ -207,8 +207,8 @@ def extend(seed, entropy):
     return compressed(bytes(16), preprocessed(seed + entropy))
 
 
-# ---- slots and key messages, from SHE's specification: sets of slots, and strings of bits. The writer gives its answer and what
-# its buffers then hold; 12 is a wrong length or number, 3 a pair that is not allowed, and both leave them as they were.
+# ---- slots and key messages, from SHE's specification: sets of slots, and strings of bits. The writer gives its answer and
+# what its buffers then hold; 12 is a wrong length or number, 3 a pair that is not allowed, and both leave them as they were.
 
 KEYS = range(4, 14)
 KINDS = {0: 0, 1: 1, 2: 2, 3: 3, **{n: 4 for n in KEYS}, 14: 5}  # any other is no slot, 6
@@ -256,7 +256,7 @@ def write_key(uid, target, authority, secret, counter, flags, key, *buffers):
     return 0, sealed(secret, uid + bytes([16 * target + authority]), packed((counter, 28), (flags, 5)) + key)
 
 
-def write_answer(uid, target, authority, counter, key, *buffers):
+def write_proof(uid, target, authority, counter, key, *buffers):
     lengths = [len(data) for data in (uid, key, *buffers)]
     answer = refusal(lengths, [15, 16, 32, 16], counter, 0, target, authority)
     if answer:
@@ -276,8 +276,8 @@ def open_messages(secret, m1, m2, m3):
     return 1, int(string[:28], 2), int(string[28:33], 2), int("1" not in string[33:]), clear[16:]
 
 
-# ---- the device, from its scope: slots as records with sets of flags, and a command as a method. A method gives its answer and,
-# where it has more to give, what its buffers then hold; a refusal leaves the device and the buffers as they were.
+# ---- the device, from its scope: slots as records with sets of flags, and a command as a method. A method gives its answer
+# and, where it has more to give, what its buffers then hold; a refusal leaves the device and the buffers as they were.
 
 SECRET_KEY, MASTER_ECU_KEY, RAM_KEY = 0, 1, 14
 VOLATILE = {"state": bytes(16), "random_key": bytes(16), "initialised": 0, "plain": 0, "debugger": 0}
@@ -311,11 +311,14 @@ class Device:
     plain: int = 0
     debugger: int = 0
     made: int = 0
+    others: bytes = bytes(3)  # marks without a meaning yet
+
+    def marks(self):
+        return bytes([self.initialised, self.plain, self.debugger, self.made]) + self.others
 
     def is_made(self):
-        marks = [self.initialised, self.plain, self.debugger, self.made] + [slot.empty for slot in self.slots]
         return (
-            all(mark in (0, 1) for mark in marks)
+            all(mark in (0, 1) for mark in [*self.marks(), *(slot.empty for slot in self.slots)])
             and self.made == 1
             and self.uid != bytes(15)
             and not self.slots[SECRET_KEY].empty
@@ -458,7 +461,7 @@ class Device:
         self.slots[target] = Slot(key, stored(target, counter), frozenset(names - WITHOUT.get(target, set(FLAGS))))
         if target == RAM_KEY:
             self.plain = 0
-        return 0, *write_answer(self.uid, target, authority, counter, key, m4, m5)[1]
+        return 0, *write_proof(self.uid, target, authority, counter, key, m4, m5)[1]
 
     def export_ram_key(self, *buffers):
         """The answer, and M1 to M5."""
@@ -469,7 +472,7 @@ class Device:
             return answer, *buffers
         secret = self.slots[SECRET_KEY].key
         first = write_key(self.uid, RAM_KEY, SECRET_KEY, secret, 0, 0, ram.key, *buffers[:3])[1]
-        return 0, *first, *write_answer(self.uid, RAM_KEY, SECRET_KEY, 0, ram.key, *buffers[3:])[1]
+        return 0, *first, *write_proof(self.uid, RAM_KEY, SECRET_KEY, 0, ram.key, *buffers[3:])[1]
 
 
 def make(uid, secret, seed):

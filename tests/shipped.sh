@@ -14,7 +14,7 @@ fi
 command -v clang >/dev/null || { echo "no clang to compile for x86-64: not tried"; exit 0; }
 tools=$(dirname "$(dirname "$(rt doc)")")/on/$machine/toolchain
 lib=$tools/lib
-if nm -u "$out/board-x86-64.o" | sed -n 's/^ *U //p' | grep -v -x -e memcpy -e memset -e memmove -e memcmp -e bcmp; then
+if nm -u "$out/she-x86-64.o" | sed -n 's/^ *U //p' | grep -v -x -e memcpy -e memset -e memmove -e memcmp -e bcmp; then
     exit 1
 fi
 
@@ -29,7 +29,7 @@ program() { # NAME SOURCE..: compiled for x86-64, and linked with the kit's obje
     done
     # shellcheck disable=SC2086
     "$tools/bin/ld.lld" -pie --dynamic-linker /lib64/ld-linux-x86-64.so.2 -o "$out/$name-x86-64" "$lib/Scrt1.o" "$lib/crti.o" \
-        "$lib/crtbeginS.o" $objects "$out/board-x86-64.o" "$lib/libc.so.6" "$lib/libc_nonshared.a" "$lib/libgcc.a" \
+        "$lib/crtbeginS.o" $objects "$out/she-x86-64.o" "$lib/libc.so.6" "$lib/libc_nonshared.a" "$lib/libgcc.a" \
         "$lib/crtendS.o" "$lib/crtn.o"
 }
 

@@ -1,5 +1,5 @@
 #!/usr/bin/env python3
-"""in_place.py [--check]: writes crates/board/proofs/she_X/Proof.antt for every routine that takes the record in place.
+"""in_place.py [--check]: writes crates/she/proofs/she_X/Proof.antt for every routine that takes the record in place.
 
 The prover has no walk of its own for a reference to a struct, so each of these routines is walked by hand. They all have one body:
 
@@ -9,7 +9,7 @@ The prover has no walk of its own for a reference to a struct, so each of these 
     reply.answer
 
 and so one proof, tools/in_place.template, but for the parameters and for the places in memory where the walk finds each local,
-which depend on them. This program reads the routines in crates/board/src/lib.rt, counts, and fills the template in. Nothing rests
+which depend on them. This program reads the routines in crates/she/src/lib.rt, counts, and fills the template in. Nothing rests
 on it, as the checker checks what it has written. With --check it writes nothing, and fails where a proof is not what it would
 write.
 """
@@ -17,8 +17,8 @@ import os
 import re
 import sys
 
-SOURCE = "crates/board/src/lib.rt"
-SHARED = "crates/board/proofs/InPlace.antt"
+SOURCE = "crates/she/src/lib.rt"
+SHARED = "crates/she/proofs/InPlace.antt"
 TEMPLATE = "tools/in_place.template"
 KINDS = {"&[u8]": "shared", "&mut [u8]": "lent", "&mut u8": "byte", "u32": "u32", "u64": "u64"}
 WIDTH = {"u32": 32, "u64": 64}
@@ -210,7 +210,7 @@ class Routine:
     def __init__(self, name, parameters, command, equation, uses):
         self.name, self.parameters, self.equation, self.uses = name, parameters, equation, uses
         crate, _, self.command = command.rpartition("::")
-        self.crate = crate or "board"
+        self.crate = crate or "she"
         self.refs = [p for p in parameters if p.is_ref]
         self.written = [p for p in parameters if p.is_written]
         self.shared = [p for p in parameters if p.kind == "shared"]
@@ -329,7 +329,7 @@ class Routine:
             "crate": self.crate,
             "command": self.command,
             "kebab command": kebab(self.command),
-            "command_place": "Rattle.board.proofs" if self.crate == "board" else f"Rattle.{self.crate}.proofs",
+            "command_place": "Rattle.she.proofs" if self.crate == "she" else f"Rattle.{self.crate}.proofs",
             "lifetimes": str(1 + len(self.refs)),
             "denoted": product(["RefT Device"] + [p.denotes for p in P]),
             "stays": nested(["stay-ref (0 ∷ []) tt (plain (λ _. T.the-row))"] + [p.stays() for p in P]),
@@ -400,7 +400,7 @@ class Routine:
         body = re.sub(r"«([^»]+)»", fill, body)
         words = set(re.findall(r"[^\s()\[\]{},]+", re.sub(r"^use .*$", "", body, flags=re.M)))
         uses = []
-        for module, names in [*PLAIN.items(), ("Rattle.board.proofs.InPlace", shared_names())]:
+        for module, names in [*PLAIN.items(), ("Rattle.she.proofs.InPlace", shared_names())]:
             used = [name for name in names if name.strip("_") in words or name == "[]"]
             if used:
                 uses.append(f"use {module}.{{{', '.join(used)}}}")
@@ -462,7 +462,7 @@ def main():
     check = sys.argv[1:] == ["--check"]
     stale = []
     for routine in routines(open(SOURCE, encoding="utf-8").read()):
-        place = f"crates/board/proofs/{routine.name}/Proof.antt"
+        place = f"crates/she/proofs/{routine.name}/Proof.antt"
         if not check:
             os.makedirs(os.path.dirname(place), exist_ok=True)
             open(place, "w", encoding="utf-8").write(routine.text())

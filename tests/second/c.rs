@@ -1,13 +1,15 @@
 //! The C side: for each `she_NAME` of the header a `second_NAME` with the same parameters.
 //!
 //! What the caller owes is what the header says: pointers valid for the length beside them and never null, and nothing that is
-//! written to overlaps anything else.
+//! written to overlaps anything else. A length has 64 bits there and is a `usize` here, so that this is for machines of 64 bits.
 
 use crate::algorithms::{self, Way};
 use crate::answer::{Answer, Refusal};
 use crate::device::{Device, Record};
 use crate::messages::{self, Order, ProofRoom, UpdateRoom};
 use std::slice::{from_raw_parts as lent, from_raw_parts_mut as room};
+
+const _: () = assert!(usize::BITS == 64);
 
 fn number<T>(answer: &Answer<T>) -> u8 {
     match answer {
@@ -117,13 +119,13 @@ pub unsafe extern "C" fn second_fleet_sheet(
 }
 
 #[no_mangle]
-pub unsafe extern "C" fn second_write_answer(
+pub unsafe extern "C" fn second_write_proof(
     uid: *const u8, uid_len: usize, target: u32, authority: u32, counter: u64, new_key: *const u8, new_key_len: usize,
     m4: *mut u8, m4_len: usize, m5: *mut u8, m5_len: usize,
 ) -> u8 {
     let mut proof = ProofRoom { m4: room(m4, m4_len), m5: room(m5, m5_len) };
     let (uid, new_key) = (lent(uid, uid_len), lent(new_key, new_key_len));
-    number(&messages::write_answer(uid, target, authority, counter, new_key, &mut proof))
+    number(&messages::write_proof(uid, target, authority, counter, new_key, &mut proof))
 }
 
 // ---- the device

@@ -9,7 +9,9 @@ use crate::answer::{demand, exactly, Answer, Refusal};
 use crate::messages::*;
 use crate::modes::{cmac, cmac_of_blocks, compress, kdf, PRNG_EXTENSION_C, PRNG_KEY_C, PRNG_SEED_KEY_C};
 
-/// The record as it is lent and stored: the layout of the C header, 397 bytes and three more.
+const MARKS: usize = 7;
+
+/// The record as it is lent and stored: the layout of the C header, without a byte between its parts or after them.
 #[repr(C)]
 #[derive(Clone)]
 pub struct Record {
@@ -21,11 +23,10 @@ pub struct Record {
     pub seed: Block,
     pub state: Block,
     pub rngkey: Block,
-    pub rng: u8,
-    pub plain: u8,
-    pub debugger: u8,
-    pub made: u8,
+    pub marks: [u8; MARKS],
 }
+
+const _: () = assert!(std::mem::size_of::<Record>() == 400);
 
 /// What a slot that isn't empty holds.
 #[derive(Clone, Copy)]
@@ -49,6 +50,8 @@ pub struct Device {
     seed: Block,
     random: Option<Random>,
     debugger: bool,
+    /// The marks that mean nothing yet (house). They are off in a new device, and stay whatever they are.
+    unnamed: [bool; 3],
 }
 
 /// A mark is a byte, 1 for on and 0 for off (house); another byte is none.
@@ -65,20 +68,20 @@ impl Record {
         std::array::from_fn(|i| self.keys[16 * slot + i])
     }
 
-    /// The plain mark, which belongs to slot 14; to every other slot it is off.
-    fn plain_of(&self, slot: usize) -> Option<bool> {
-        if slot as u32 == RAM_KEY {
-            mark(self.plain)
-        } else {
-            Some(false)
+    /// The marks in their order, or nothing if one of the bytes is none.
+    fn marks(&self) -> Option<[bool; MARKS]> {
+        let mut marks = [false; MARKS];
+        for (on, &byte) in marks.iter_mut().zip(&self.marks) {
+            *on = mark(byte)?;
         }
+        Some(marks)
     }
 
-    /// One slot, or nothing at all if no made device has it.
-    fn slot(&self, slot: usize) -> Option<Option<Key>> {
+    /// One slot, or nothing at all if no made device has it. The plain mark is slot 14's; to every other slot it is off.
+    fn slot(&self, slot: usize, plain_mark: bool) -> Option<Option<Key>> {
         let number = slot as u32;
         let (bytes, counter, flags) = (self.key_bytes(slot), self.counters[slot], self.flags[slot]);
-        let plain = self.plain_of(slot)?;
+        let plain = plain_mark && number == RAM_KEY;
         if mark(self.empty[slot])? {
             let blank = bytes == [0; 16] && counter == 0 && flags == 0 && !plain;
             return (number != SECRET_KEY && blank).then_some(None);
@@ -88,8 +91,8 @@ impl Record {
         sound.then_some(Some(Key { bytes, counter, flags, plain }))
     }
 
-    fn random(&self) -> Option<Option<Random>> {
-        if mark(self.rng)? {
+    fn random(&self, is_on: bool) -> Option<Option<Random>> {
+        if is_on {
             return Some(Some(Random { state: self.state, key: self.rngkey }));
         }
         (self.state == [0; 16] && self.rngkey == [0; 16]).then_some(None)
@@ -99,15 +102,16 @@ impl Record {
 impl Device {
     /// The device that a record holds, if it counts as made.
     pub fn read(record: &Record) -> Option<Device> {
-        if record.made != 1 || record.uid == [0; 15] {
+        let [random, plain, debugger, made, unnamed @ ..] = record.marks()?;
+        if !made || record.uid == [0; 15] {
             return None;
         }
         let mut slots = [None; SLOTS];
         for (number, slot) in slots.iter_mut().enumerate() {
-            *slot = record.slot(number)?;
+            *slot = record.slot(number, plain)?;
         }
-        let random = record.random()?;
-        Some(Device { slots, uid: record.uid, seed: record.seed, random, debugger: mark(record.debugger)? })
+        let random = record.random(random)?;
+        Some(Device { slots, uid: record.uid, seed: record.seed, random, debugger, unnamed })
     }
 
     pub fn write(&self, record: &mut Record) {
@@ -119,14 +123,13 @@ impl Device {
             record.empty[number] = slot.is_none().into();
         }
         let random = self.random.unwrap_or(Random { state: [0; 16], key: [0; 16] });
+        let plain = self.slots[RAM_KEY as usize].is_some_and(|key| key.plain);
+        let [fifth, sixth, seventh] = self.unnamed;
         record.uid = self.uid;
         record.seed = self.seed;
         record.state = random.state;
         record.rngkey = random.key;
-        record.rng = self.random.is_some().into();
-        record.plain = self.slots[RAM_KEY as usize].is_some_and(|key| key.plain).into();
-        record.debugger = self.debugger.into();
-        record.made = 1;
+        record.marks = [self.random.is_some(), plain, self.debugger, true, fifth, sixth, seventh].map(u8::from);
     }
 
     /// 4.4.4.2: a UID is never zero, for zero is the wildcard.
@@ -137,7 +140,7 @@ impl Device {
         demand(uid != [0; 15], Refusal::GeneralError)?;
         let mut slots = [None; SLOTS];
         slots[SECRET_KEY as usize] = Some(Key { bytes, counter: 0, flags: 0, plain: false });
-        Ok(Device { slots, uid, seed, random: None, debugger: false })
+        Ok(Device { slots, uid, seed, random: None, debugger: false, unnamed: [false; 3] })
     }
 
     /// 4.4.3: what is volatile goes.

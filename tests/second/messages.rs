@@ -217,8 +217,8 @@ pub fn fleet_sheet(order: &Order, room: &mut UpdateRoom) -> Answer<()> {
     write_key_short(&Order { uid: &[0; 15], ..*order }, room)
 }
 
-/// What the board will answer to such a message, with the counter as the target keeps it. Refusals in the same order.
-pub fn write_answer(uid: &[u8], target: u32, authority: u32, counter: u64, new_key: &[u8], room: &mut ProofRoom) -> Answer<()> {
+/// The proof that the board will give of such a message, with the counter as the target keeps it. Refusals in the same order.
+pub fn write_proof(uid: &[u8], target: u32, authority: u32, counter: u64, new_key: &[u8], room: &mut ProofRoom) -> Answer<()> {
     let (uid, new_key) = (exactly(uid)?, exactly(new_key)?);
     room.check()?;
     let counter = narrow_counter(counter)?;

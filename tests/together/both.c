@@ -25,7 +25,7 @@ void blank_call(struct call *c, const struct function *f) {
     point_into_storage(c);
 }
 
-void set_length(struct call *c, size_t buffer, size_t length) { c->piece[BUFFERS + buffer].length = length; }
+void set_length(struct call *c, size_t buffer, she_length length) { c->piece[BUFFERS + buffer].length = length; }
 
 static size_t piece_count(const struct call *c) { return BUFFERS + buffer_count(c->function); }
 
@@ -147,15 +147,10 @@ static size_t agreement(const uint8_t *a, const uint8_t *b, size_t length) {
     return i;
 }
 
-/* The last three bytes of a record mean nothing. */
-static size_t meant(const struct call *c, size_t piece) {
-    return piece == THE_RECORD ? (size_t)SHE_DEVICE_BYTES : c->piece[piece].length;
-}
-
 static void compare_sides(const struct verdict *v) {
     if (v->answer[0] != v->answer[1]) fail(v, "the answers differ");
     for (size_t i = 0; i < piece_count(v->call); i++) {
-        size_t length = meant(v->call, i);
+        size_t length = v->call->piece[i].length;
         size_t at = agreement(sides[0].lent.piece[i].bytes, sides[1].lent.piece[i].bytes, length);
         if (at < length) fail_at(v, "the two leave something else", i, at);
     }
@@ -179,7 +174,7 @@ static int must_stay(const struct call *c, size_t piece, uint8_t answer) {
 
 static void compare_with_before(const struct verdict *v, const struct side *s, uint8_t answer) {
     for (size_t i = 0; i < piece_count(v->call); i++) {
-        size_t length = meant(v->call, i);
+        size_t length = v->call->piece[i].length;
         size_t at = agreement(s->lent.piece[i].bytes, v->call->piece[i].bytes, length);
         if (must_stay(v->call, i, answer) && at < length) fail_at(v, "something changed that must not", i, at);
     }
@@ -198,7 +193,7 @@ static void compare(const struct verdict *v) {
 }
 
 static void keep_outcome(struct call *c) {
-    for (size_t i = 0; i < piece_count(c); i++) memcpy(c->piece[i].bytes, sides[0].lent.piece[i].bytes, meant(c, i));
+    for (size_t i = 0; i < piece_count(c); i++) memcpy(c->piece[i].bytes, sides[0].lent.piece[i].bytes, c->piece[i].length);
 }
 
 /* ---- a number made of all that was left (FNV-1a), which is the same for the same run on any machine */
@@ -210,7 +205,7 @@ static void digest_byte(uint8_t byte) { digest = (digest ^ byte) * 0x100000001B3
 static void digest_outcome(const struct call *c, uint8_t answer) {
     digest_byte(answer);
     for (size_t i = 0; i < piece_count(c); i++)
-        for (size_t k = 0; k < meant(c, i); k++) digest_byte(c->piece[i].bytes[k]);
+        for (size_t k = 0; k < c->piece[i].length; k++) digest_byte(c->piece[i].bytes[k]);
 }
 
 void print_digest(void) { printf("digest %016" PRIx64 "\n", digest); }

@@ -138,28 +138,29 @@ void make_record(struct she_device *d) {
     fill(d->uid, sizeof d->uid);
     fill(d->seed, sizeof d->seed);
     d->uid[below(SHE_UID)] |= 1;
-    d->made = 1;
+    d->marks[SHE_MARK_MADE] = 1;
 }
 
 static void fill_slot(struct she_device *d, size_t slot) {
     d->empty[slot] = 0;
     fill(d->keys + 16 * slot, 16);
     if (slot == SHE_RAM_KEY) {
-        d->plain = (uint8_t)below(2);
+        d->marks[SHE_MARK_PLAIN] = (uint8_t)below(2);
         return;
     }
     d->counters[slot] = draw_stored_counter();
     d->flags[slot] = draw_flags() & flags_of(slot);
 }
 
-/* A record that many loads may have left. */
+/* A record that many loads may have left, and with any of the marks that mean nothing yet. */
 void rich_record(struct she_device *d) {
     make_record(d);
     for (size_t slot = 1; slot < SHE_SLOTS; slot++)
         if (below(10) < 7) fill_slot(d, slot);
-    d->debugger = (uint8_t)below(2);
-    d->rng = (uint8_t)below(2);
-    if (!d->rng) return;
+    for (size_t mark = FIRST_UNNAMED; mark < SHE_MARKS; mark++) d->marks[mark] = (uint8_t)below(2);
+    d->marks[SHE_MARK_DEBUGGER] = (uint8_t)below(2);
+    d->marks[SHE_MARK_RANDOM] = (uint8_t)below(2);
+    if (!d->marks[SHE_MARK_RANDOM]) return;
     fill(d->state, sizeof d->state);
     fill(d->rngkey, sizeof d->rngkey);
 }
@@ -172,12 +173,9 @@ static uint8_t spoiled_mark(uint8_t mark) {
 
 static void spoil_record(struct she_device *d) {
     static const uint32_t counters[] = {1, SHE_MAX_COUNTER, SHE_MAX_COUNTER + 1, 0x80000000, 0xFFFFFFFF};
-    size_t slot = one_in(4) ? 14 * below(2) : below(SHE_SLOTS);
+    size_t slot = one_in(4) ? 14 * below(2) : below(SHE_SLOTS), mark = below(SHE_MARKS);
     switch (below(14)) {
-    case 0: d->made = spoiled_mark(d->made); break;
-    case 1: d->rng = spoiled_mark(d->rng); break;
-    case 2: d->plain = spoiled_mark(d->plain); break;
-    case 3: d->debugger = spoiled_mark(d->debugger); break;
+    case 0: case 1: case 2: case 3: d->marks[mark] = spoiled_mark(d->marks[mark]); break;
     case 4: case 5: d->empty[slot] = spoiled_mark(d->empty[slot]); break;
     case 6: memset(d->uid, 0, sizeof d->uid); break;
     case 7: d->counters[slot] = ONE_OF(counters); break;
@@ -185,7 +183,7 @@ static void spoil_record(struct she_device *d) {
     case 10: flip_any_bit(d->keys + 16 * slot, 16); break;
     case 11: flip_any_bit(d->state, 16); break;
     case 12: flip_any_bit(d->rngkey, 16); break;
-    default: flip_any_bit((uint8_t *)d, SHE_DEVICE_BYTES);
+    default: flip_any_bit((uint8_t *)d, sizeof *d);
     }
 }
 
@@ -202,12 +200,12 @@ static void draw_record(struct she_device *d) {
     uint64_t kind = below(100);
     is_make_next = kind < 37;
     is_short = kind >= 74;
-    if (kind < 10) fill((uint8_t *)d, SHE_DEVICE_BYTES);
+    if (kind < 10) fill((uint8_t *)d, sizeof *d);
     else if (kind < 27) memset(d, 0, sizeof *d);
     else if (kind < 74) rich_record(d);
     else if (kind < 96) spoiled_record(d);
     else if (kind < 98) memset(d, 0, sizeof *d);
-    else fill((uint8_t *)d, SHE_DEVICE_BYTES);
+    else fill((uint8_t *)d, sizeof *d);
 }
 
 /* ---- key messages */
@@ -251,8 +249,8 @@ static void plan_identity(struct plan *p, const struct she_device *d) {
     if (kind < 5) memset(p->uid, 0, SHE_UID);
     if (kind == 5) flip_any_bit(p->uid, SHE_UID);
     if (kind == 6) fill(p->uid, SHE_UID);
-    if (memcmp(p->uid, d->uid, SHE_UID) && kind >= 5) p->marks |= OTHER_BOARD;
-    if (kind < 5 && p->target < SHE_SLOTS && d->flags[p->target] & SHE_WILDCARD) p->marks |= FORBIDDEN_WILDCARD;
+    if (memcmp(p->uid, d->uid, SHE_UID) && kind >= 5) p->traits |= OTHER_BOARD;
+    if (kind < 5 && p->target < SHE_SLOTS && d->flags[p->target] & SHE_WILDCARD) p->traits |= FORBIDDEN_WILDCARD;
 }
 
 /* The key that counts is FF all over for an empty slot. The wrong ones include what lies in such a slot, zeros. */
@@ -264,7 +262,7 @@ static void plan_key(struct plan *p, const struct she_device *d) {
     memcpy(p->key, right, 16);
     if (one_in(20)) memset(p->key, one_in(2) ? 0xFF : 0, 16);
     if (one_in(40)) fill(p->key, 16);
-    if (memcmp(p->key, right, 16)) p->marks |= FORGED;
+    if (memcmp(p->key, right, 16)) p->traits |= FORGED;
 }
 
 static uint32_t draw_counter(uint32_t stored) {
@@ -284,17 +282,17 @@ static void plan_first_block(struct plan *p, const struct she_device *d) {
     uint32_t stored = p->target < SHE_SLOTS ? d->counters[p->target] & SHE_MAX_COUNTER : 0;
     p->counter = draw_counter(stored);
     if (p->counter > SHE_MAX_COUNTER) p->counter = SHE_MAX_COUNTER;
-    if (p->target != SHE_RAM_KEY && p->counter <= stored) p->marks |= NOT_NEWER;
+    if (p->target != SHE_RAM_KEY && p->counter <= stored) p->traits |= NOT_NEWER;
     p->flags = draw_flags();
-    if (p->flags & ~flags_of(p->target)) p->marks |= DROPPED_FLAG;
+    if (p->flags & ~flags_of(p->target)) p->traits |= DROPPED_FLAG;
     memset(p->filler, 0, sizeof p->filler);
     if (!one_in(14)) return;
     flip_bit(p->filler, 1 + below(95));
-    p->marks |= FILLED;
+    p->traits |= FILLED;
 }
 
 void plan_message(struct plan *p, const struct she_device *d) {
-    p->marks = 0;
+    p->traits = 0;
     plan_pair(p, d);
     plan_identity(p, d);
     plan_key(p, d);
@@ -341,7 +339,7 @@ void put(struct call *c, const char *name, const uint8_t *bytes, size_t length) 
     if (to) memcpy(to, bytes, length);
 }
 
-static void set_open_lengths(struct call *c, size_t length) {
+static void set_open_lengths(struct call *c, she_length length) {
     for (size_t i = 0; i < buffer_count(c->function); i++)
         if (!c->function->buffers[i].length) set_length(c, i, length);
 }
@@ -367,9 +365,9 @@ static void draw_number(struct call *c, size_t i) {
 
 void draw_plain(struct call *c) { fill_buffers(c); }
 
-static size_t draw_cbc_length(void) {
-    static const size_t ends[] = {16 * SHE_MAX_BLOCKS, 16 * (SHE_MAX_BLOCKS + 1), 16 * SHE_MAX_BLOCKS - 1,
-                                  16 * SHE_MAX_BLOCKS + 1};
+static she_length draw_cbc_length(void) {
+    static const she_length ends[] = {16 * SHE_MAX_BLOCKS, 16 * (SHE_MAX_BLOCKS + 1), 16 * SHE_MAX_BLOCKS - 1,
+                                      16 * SHE_MAX_BLOCKS + 1};
     if (one_in(60)) return one_in(3) ? 16 * (1 + below(SHE_MAX_BLOCKS)) : ONE_OF(ends);
     return one_in(16) ? below(130) : 16 * (1 + below(8));
 }
@@ -380,7 +378,7 @@ void draw_cbc(struct call *c) {
 }
 
 /* Bits beyond all limits come with a message that would fit if their upper part were lost, or if rounding up went around. */
-static size_t message_length(uint64_t bits) {
+static she_length message_length(uint64_t bits) {
     if (bits > SHE_MAX_BITS + 128) bits &= one_in(2) ? 0x3FF : 0;
     return 16 * (bits ? (bits + 127) / 128 : 1);
 }
@@ -396,8 +394,8 @@ static void spoil_mac(struct call *c, uint8_t *mac, uint64_t mac_bits) {
     uint64_t bit = one_in(2) ? compared - 1 : one_in(2) ? compared : below(128);
     if (bit >= 128) return;
     flip_bit(mac, bit);
-    if (bit >= compared) c->marks |= WRONG_AFTER;
-    if (bit == compared - 1) c->marks |= WRONG_IN_LAST;
+    if (bit >= compared) c->traits |= WRONG_AFTER;
+    if (bit == compared - 1) c->traits |= WRONG_IN_LAST;
 }
 
 void draw_verify(struct call *c) {
@@ -443,16 +441,16 @@ void draw_load(struct call *c) {
     fill_buffers(c);
     if (remembered_count && one_in(6)) {
         m = remembered[below(remembered_count < LENGTH(remembered) ? remembered_count : LENGTH(remembered))];
-        c->marks = REPLAYED;
+        c->traits = REPLAYED;
     } else {
         struct plan p;
         plan_message(&p, &c->device);
         build_message(&p, &m);
-        c->marks = p.marks;
+        c->traits = p.traits;
     }
     if (one_in(10)) {
         damage_message(&m);
-        c->marks |= FORGED;
+        c->traits |= FORGED;
     }
     put_message(c, &m);
 }
@@ -460,10 +458,10 @@ void draw_load(struct call *c) {
 /* ---- sequences */
 
 static void spoil_length(struct call *c) {
-    static const size_t others[] = {0, 1, 15, 16, 17, 31, 32, 33, 48, 64};
+    static const she_length others[] = {0, 1, 15, 16, 17, 31, 32, 33, 48, 64};
     size_t count = buffer_count(c->function), i = count ? below(count) : 0;
     struct piece *p = &c->piece[BUFFERS + i];
-    size_t was = p->length, now = ONE_OF(others);
+    she_length was = p->length, now = ONE_OF(others);
     if (!count) return;
     if (one_in(2)) now = was && one_in(2) ? was - 1 : was + 1;
     if (now > LARGEST) return;

@@ -35,7 +35,7 @@
       A(0) | A(3) | A(12), 3, draw_writer, (B(0), I(0), I(1), B(1), I(2), B(2), B(3), B(4), B(5))) \
     X(fleet_sheet, R(authority_key, 16) R(new_key, 16) M1_TO_M3(W), N(TARGET) N(AUTHORITY) N(COUNTER), 0, \
       A(0) | A(3) | A(12), 3, draw_writer, (I(0), I(1), B(0), I(2), B(1), B(2), B(3), B(4))) \
-    X(write_answer, R(uid, 15) R(new_key, 16) M4_AND_M5, N(TARGET) N(AUTHORITY) N(COUNTER), 0, \
+    X(write_proof, R(uid, 15) R(new_key, 16) M4_AND_M5, N(TARGET) N(AUTHORITY) N(COUNTER), 0, \
       A(0) | A(3) | A(12), 3, draw_writer, (B(0), I(0), I(1), I(2), B(1), B(2), B(3))) \
     X(make, R(uid, 15) R(secret_key, 16) R(seed, 16), N(NO_NUMBER), 0, A(0) | A(12), 1, draw_make, \
       (DEVICE, B(0), B(1), B(2))) \

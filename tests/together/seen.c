@@ -22,6 +22,8 @@ static uint64_t calls;
     X(STATUS_64, "GET_STATUS: 64") \
     X(STATUS_96, "GET_STATUS: 96") \
     X(MARKED_BUT_NOT_MADE, "GET_STATUS: 12, though the made mark is on") \
+    X(RESET_WITH_UNNAMED, "RESET: with a mark on that means nothing yet") \
+    X(MADE_OVER_UNNAMED, "MAKE: over a mark on that means nothing yet") \
     X(ID_WITHOUT_MAC, "GET_ID: without a MASTER_ECU_KEY") \
     X(EMPTY_MAC, "a MAC of 0 bits") \
     X(UNEVEN_MAC, "a MAC of bits that fill no byte") \
@@ -70,19 +72,25 @@ static void look_at_verify(const struct call *c, uint8_t answer) {
     if (answer != SHE_NO_ERROR) return;
     see(VERDICT_YES, verdict == 1);
     see(VERDICT_NO, verdict == 0);
-    see(YES_THOUGH_WRONG_AFTER, verdict == 1 && c->marks & WRONG_AFTER);
-    see(NO_FOR_LAST_BIT, verdict == 0 && c->marks & WRONG_IN_LAST);
+    see(YES_THOUGH_WRONG_AFTER, verdict == 1 && c->traits & WRONG_AFTER);
+    see(NO_FOR_LAST_BIT, verdict == 0 && c->traits & WRONG_IN_LAST);
     see(VERIFIED_BY_BOOT_MAC_KEY, number_of(c, SLOT, 0) == SHE_BOOT_MAC_KEY);
 }
 
 static void look_at_status(const struct call *c, uint8_t answer) {
     uint8_t status = *c->piece[THE_BYTE].bytes;
-    see(MARKED_BUT_NOT_MADE, answer != SHE_NO_ERROR && c->device.made == 1);
+    see(MARKED_BUT_NOT_MADE, answer != SHE_NO_ERROR && c->device.marks[SHE_MARK_MADE] == 1);
     if (answer != SHE_NO_ERROR) return;
     see(STATUS_0, status == 0);
     see(STATUS_32, status == 32);
     see(STATUS_64, status == 64);
     see(STATUS_96, status == 96);
+}
+
+static int has_unnamed(const struct she_device *d) {
+    for (size_t mark = FIRST_UNNAMED; mark < SHE_MARKS; mark++)
+        if (d->marks[mark]) return 1;
+    return 0;
 }
 
 static void look_at_mac(const struct call *c, uint8_t answer) {
@@ -116,15 +124,15 @@ static void look_at_loaded(const struct call *c, const struct she_device *before
     see(LOADED_RAM_BY_SECRET, into_ram && !by_key_n);
     see(LOADED_RAM_BY_KEY_N, into_ram && by_key_n);
     see(LOADED_RAM_BY_MAC_KEY, into_ram && before->flags[authority] & SHE_KEY_USAGE);
-    see(LOADED_OVER_PLAIN, into_ram && before->plain);
+    see(LOADED_OVER_PLAIN, into_ram && before->marks[SHE_MARK_PLAIN]);
     see(LOADED_LARGEST, c->device.counters[target] == SHE_MAX_COUNTER);
-    see(LOADED_DROPPING, c->marks & DROPPED_FLAG && !into_ram);
-    see(LOADED_LOCKED_TARGET, before->debugger && before->flags[target] & SHE_DEBUGGER);
-    see(LOADED_AGAIN, c->marks & REPLAYED);
+    see(LOADED_DROPPING, c->traits & DROPPED_FLAG && !into_ram);
+    see(LOADED_LOCKED_TARGET, before->marks[SHE_MARK_DEBUGGER] && before->flags[target] & SHE_DEBUGGER);
+    see(LOADED_AGAIN, c->traits & REPLAYED);
 }
 
 static void look_at_refused(const struct call *c) {
-    unsigned faults = c->marks & (FAULTS | REPLAYED);
+    unsigned faults = c->traits & (FAULTS | REPLAYED);
     see(REFUSED_FORGED, faults == FORGED);
     see(REFUSED_OTHER_BOARD, faults == OTHER_BOARD);
     see(REFUSED_WILDCARD, faults == FORBIDDEN_WILDCARD);
@@ -138,6 +146,8 @@ void count_call(const struct call *after, const struct she_device *before, uint8
     calls++;
     if (is_named(after, "verify_mac")) look_at_verify(after, answer);
     if (is_named(after, "get_status")) look_at_status(after, answer);
+    if (is_named(after, "reset")) see(RESET_WITH_UNNAMED, answer == SHE_NO_ERROR && has_unnamed(before));
+    if (is_named(after, "make")) see(MADE_OVER_UNNAMED, answer == SHE_NO_ERROR && has_unnamed(before));
     if (is_named(after, "get_id")) see(ID_WITHOUT_MAC, answer == SHE_NO_ERROR && before->empty[SHE_MASTER_ECU_KEY]);
     if (is_named(after, "load_key") && answer == SHE_NO_ERROR) look_at_loaded(after, before);
     if (is_named(after, "load_key") && answer == SHE_KEY_UPDATE_ERROR) look_at_refused(after);

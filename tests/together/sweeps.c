@@ -28,10 +28,20 @@ static int takes(const struct function *f, enum number_kind kind) {
 /* Marks, counters, flags: which records count as made. */
 static void sweep_record(const struct she_device *d) {
     const struct function *f = function_named("get_status");
-    for (size_t at = 0; at < SHE_DEVICE_BYTES; at++)
+    for (size_t at = 0; at < sizeof *d; at++)
         for (unsigned value = 0; value < 256; value++) {
             prepare_call(&c, f, d, NULL);
             c.piece[THE_RECORD].bytes[at] = (uint8_t)value;
+            run();
+        }
+}
+
+/* Every function with every set of marks on: what counts as made by them, and what becomes of those that mean nothing yet. */
+static void sweep_marks(const struct she_device *d) {
+    for (const struct function *f = functions; f < functions + function_count; f++)
+        for (unsigned set = 0; set < 1u << SHE_MARKS; set++) {
+            prepare_call(&c, f, d, NULL);
+            for (size_t mark = 0; mark < SHE_MARKS; mark++) c.device.marks[mark] = set >> mark & 1;
             run();
         }
 }
@@ -176,9 +186,10 @@ static const struct {
     const char *name;
     void (*sweep)(const struct she_device *);
 } sweeps[] = {
-    {"records", sweep_record},       {"slots", sweep_slots},   {"writers", sweep_writers}, {"slot bytes", sweep_slot_bytes},
-    {"flags", sweep_flags},          {"filler", sweep_filler}, {"damage", sweep_damage},   {"counters", sweep_counters},
-    {"bits compared", sweep_mac_bits}, {"bits", sweep_bits},   {"lengths", sweep_lengths},
+    {"records", sweep_record},         {"marks", sweep_marks},           {"slots", sweep_slots},
+    {"writers", sweep_writers},        {"slot bytes", sweep_slot_bytes}, {"flags", sweep_flags},
+    {"filler", sweep_filler},          {"damage", sweep_damage},         {"counters", sweep_counters},
+    {"bits compared", sweep_mac_bits}, {"bits", sweep_bits},             {"lengths", sweep_lengths},
 };
 
 int run_sweeps(uint64_t from) {

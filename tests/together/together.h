@@ -9,7 +9,8 @@
 enum {
     MAX_BUFFERS = 6,
     MAX_NUMBERS = 4,
-    LARGEST = 16 * (SHE_MAX_BLOCKS + 1) /* bytes of the longest buffer ever lent: one block too many */
+    LARGEST = 16 * (SHE_MAX_BLOCKS + 1), /* bytes of the longest buffer ever lent: one block too many */
+    FIRST_UNNAMED = SHE_MARK_MADE + 1    /* of a record's marks: from here on they mean nothing yet */
 };
 
 /* What is lent to a call: the record, the byte for a verdict or a status, and the buffers in the order of the parameters. */
@@ -17,7 +18,7 @@ enum { THE_RECORD, THE_BYTE, BUFFERS, PIECES = BUFFERS + MAX_BUFFERS };
 
 struct piece {
     uint8_t *bytes;
-    size_t length;
+    she_length length;
 };
 
 /* One side's copies for one call. */
@@ -31,7 +32,7 @@ enum number_kind { NO_NUMBER, SLOT, TARGET, AUTHORITY, BITS, MAC_BITS, COUNTER, 
 struct buffer {
     const char *name;
     int is_written;
-    size_t length; /* 0: as the other parameters demand */
+    she_length length; /* 0: as the other parameters demand */
 };
 
 struct call;
@@ -56,10 +57,10 @@ struct call {
     struct piece piece[PIECES];
     uint64_t number[MAX_NUMBERS];
     struct she_device device;
-    unsigned marks; /* what draw.c knows of it, of enum mark, for the count of what was seen */
+    unsigned traits; /* what draw.c knows of it, of enum trait, for the count of what was seen */
 };
 
-enum mark {
+enum trait {
     FORGED = 1,              /* a key message with a wrong M3 */
     OTHER_BOARD = 2,         /* with another board's UID' */
     FORBIDDEN_WILDCARD = 4,  /* with the wildcard, for a slot that has WILDCARD set */
@@ -82,7 +83,7 @@ const char *number_name(enum number_kind kind);
 /* ---- both.c: calling both and comparing */
 extern int lend_exactly; /* each buffer by malloc at its very length, for a memory checker, and without guards */
 void blank_call(struct call *c, const struct function *f);
-void set_length(struct call *c, size_t buffer, size_t length);
+void set_length(struct call *c, size_t buffer, she_length length);
 /* Makes the call to both. On agreement the outcome is in the call itself: record, byte and buffers as they were left. On a
  * difference it prints all it knows, with `where` for a first line, and ends the program. */
 uint8_t call_both(struct call *c, const char *where);
@@ -109,7 +110,7 @@ struct plan {
     uint8_t flags;
     uint8_t filler[12]; /* the last 95 bits of the first block, in bytes 4 to 15 */
     uint8_t new_key[16];
-    unsigned marks;
+    unsigned traits;
 };
 
 struct message {

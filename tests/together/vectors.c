@@ -103,7 +103,7 @@ static const struct row rows[] = {
 
     DO_WITH("TR 948 4.13.2.10", write_key, (4, 1, 1, 0), UID_1, COUNT_KEY, NEW_KEY, M1, M2, M3),
     DO_WITH("TR 948 4.13.2.10", write_key_short, (4, 1, 1), UID_1, COUNT_KEY, NEW_KEY, M1, M2, M3),
-    DO_WITH("TR 948 4.13.2.10", write_answer, (4, 1, 1), UID_1, NEW_KEY, M4, M5),
+    DO_WITH("TR 948 4.13.2.10", write_proof, (4, 1, 1), UID_1, NEW_KEY, M4, M5),
     LET("TR 948 4.13.2.10, MASTER_ECU_KEY", KEY_OF(1), COUNT_KEY),
     LET("TR 948 4.13.2.10, MASTER_ECU_KEY", FIELD(empty) + 1, "00"),
     DO("TR 948 4.13.2.10", load_key, M1, M2, M3, M4, M5),

@@ -1,16 +1,18 @@
 // Plays cases of the device: reads lines, does what each says, and writes it with what came of it. So a case is added as data.
 //
 // Nothing here knows what a call should answer. What the program must write is in the file stdout, which a second program has
-// written from the same lines. After an answer of 0 stands what the command put out and, where it may change the device, one
-// block made of the whole record; after any other stands whether the device and the lent buffers are as they were.
+// written from the same lines. After an answer of 0 stands what the command put out and, where it may change the device, each
+// field of the record that it changed, by name and with its new bytes; after any other stands whether the device and the lent
+// buffers are as they were. A line that makes the device anew writes the fields in which it differs from the one before.
 //
-// A line is a name and up to twelve numbers; the words between them are for the reader, and have no digits. A number that is left
-// out is larger than any, and a length that is larger than a buffer stands for all of it. A line that starts with # is a heading.
-// There is one device, which each line leaves to the next. The names, with their numbers:
+// A line is a name and up to twelve numbers; the words between them are for the reader, and have no digits. A number that is
+// left out is larger than any, and a length that is larger than a buffer stands for all of it. A line that starts with # is a
+// heading. There is one device, which each line leaves to the next. The names, with their numbers:
 //
 //     MAKE uid, its length, of SECRET_KEY, of the seed, a bit of SECRET_KEY that is changed
 //     DEVICE last, flags                   makes the device, and loads slots 1 to the last by slot 1 with counter 1
-//     SET field, place, value              changes a byte or a counter of the record, whose fields are counted from 0
+//     SET field, place, value              changes a byte or a counter of the record, whose fields are counted from 0: keys,
+//                                          counters, flags, empty marks, UID, seed, random state, random key, marks
 //     RECORD from, to                      these of the record's 35 rows, the last left out
 //     RESET, DEBUGGER, INIT_RNG, GET_STATUS
 //     EXTEND_SEED length
@@ -27,8 +29,16 @@
 //     PAIRS                                the slot bytes of M1 that LOAD_KEY takes
 //     EXPORT_RAM_KEY lengths of M1 to M5
 //
-// The key of a slot is made of its number. UID 0 is the wildcard, 1 the device's own, 2 another. VERIFY_MAC takes the block that
-// the last of the five before it put out. Bits are counted from the most significant of the first byte, through M1, M2 and M3.
+// The key of a slot is made of its number. UID 0 is the wildcard, 1 the device's own, 2 another. VERIFY_MAC takes the block
+// that the last of the five before it put out. Bits are counted from the most significant of the first byte, through M1, M2 and
+// M3.
+//
+// The fields that are written where they changed, with an example of those that hold several things:
+//
+//     key 4                                and so for each slot
+//     slot 4 000000010D00                  a counter of 1, flags 0D, and 00 as it is not empty
+//     UID, seed, state, random key         the last two are those of the random numbers
+//     marks 01000001000000                 initialised, not plain, no debugger, made; the last three have no meaning yet
 ghost use Prim.Native.Nat.{_≤_};
 ghost use lib.ListN.{length};
 use commands::Verdict;
@@ -38,8 +48,8 @@ use libc::STDIN_FILENO;
 use libc::STDOUT_FILENO;
 use modes::Constant;
 
-// SECRET_KEY, seed and entropy are those of AUTOSAR TR 948, 4.13.2.6 and 4.13.2.9. The bytes after the right length are there for
-// wrong ones.
+// SECRET_KEY, seed and entropy are those of AUTOSAR TR 948, 4.13.2.6 and 4.13.2.9. The bytes after the right length are there
+// for wrong ones.
 const SECRET: [u8; 17] = *b"\x2b\x7e\x15\x16\x28\xae\xd2\xa6\xab\xf7\x15\x88\x09\xcf\x4f\x3c+";
 
 const SEED: [u8; 17] = *b"\x6b\xc1\xbe\xe2\x2e\x40\x9f\x96\xe9\x3d\x7e\x11\x73\x93\x17\x2a+";
@@ -62,6 +72,9 @@ const ROOM: usize = 65552;
 const ABSENT: u64 = 0xffffffffffffffff;
 
 const NOTHING: [u8; 0] = [];
+
+// Of 16 bytes, in the image of the record.
+const ROWS: u8 = 35;
 
 // Names by their numbers, twenty characters to each.
 const ANSWERS: [u8; 260] = *b"NO_ERROR            \
@@ -268,7 +281,7 @@ fn name_of(table: &[u8], number: u8) -> &[u8] {
 fn command_of(line: &[u8]) -> u8 {
     let name = word(line);
     let mut number: u8 = 0;
-    while number < NO_COMMAND && !message::is_same(name, name_of(&COMMANDS, number)) {
+    while number < NO_COMMAND && !basics::is_same(name, name_of(&COMMANDS, number)) {
         number += 1;
     }
     number
@@ -374,7 +387,7 @@ fn slot_row(device: Device, slot: u8) -> [u8; 16] {
     let mut row = [0u8; 16];
     put(&mut row, 0, &bytes_of(device::counter_at(device, slot)));
     row[4] = device::flags_at(device, slot);
-    row[5] = device::byte_at(&device.empty, slot as usize);
+    row[5] = basics::byte_at(&device.empty, slot as usize);
     row
 }
 
@@ -393,23 +406,19 @@ fn image_of(device: Device) -> [u8; 560] {
     let seed = device.seed;
     let state = device.state;
     let key = device.rngkey;
-    let named = with_row(slots_image(device), 30, device::block_at(&device.uid, 0));
+    let named = with_row(slots_image(device), 30, basics::block_at(&device.uid, 0));
     let seeded = with_row(named, 31, seed);
-    let mut image = with_row(with_row(seeded, 32, state), 33, key);
-    image[544] = device.rng;
-    image[545] = device.plain;
-    image[546] = device.debugger;
-    image[547] = device.made;
-    image
+    let random = with_row(with_row(seeded, 32, state), 33, key);
+    with_row(random, 34, basics::block_at(&device.marks, 0))
 }
 
 fn same_device(a: Device, b: Device) -> bool {
-    message::is_same(&image_of(a), &image_of(b))
+    basics::is_same(&image_of(a), &image_of(b))
 }
 
 fn write_row(image: [u8; 560], row: u8) {
     write_number(b"row ", row as u64);
-    write_hex(b": ", &device::block_at(&image, row));
+    write_hex(b": ", &basics::block_at(&image, row));
     write(b"\n");
 }
 
@@ -422,26 +431,68 @@ fn write_rows(device: Device, from: u8, to: u8) {
     }
 }
 
-// One block made of the record.
-fn write_record(device: Device) {
-    let mut block = [0u8; 16];
-    modes::compress(&[0u8; 16], &image_of(device), &mut block);
-    write_hex(b", record ", &block);
+// ---- what a line changed
+
+fn write_slot_field(row: u8, bytes: [u8; 16]) {
+    let slot = (row / 2) as u64;
+    if row % 2 == 0 {
+        write_number(b", key ", slot);
+        write_hex(b" ", &bytes);
+    } else {
+        write_number(b", slot ", slot);
+        write_hex(b" ", front(&bytes, 6));
+    }
+}
+
+// What a row holds: its name, and those of its bytes that mean something.
+fn write_field(row: u8, bytes: [u8; 16]) {
+    match row {
+        30 => write_hex(b", UID ", front(&bytes, 15)),
+        31 => write_hex(b", seed ", &bytes),
+        32 => write_hex(b", state ", &bytes),
+        33 => write_hex(b", random key ", &bytes),
+        34 => write_hex(b", marks ", front(&bytes, 7)),
+        _ => write_slot_field(row, bytes),
+    }
+}
+
+fn write_where_new(row: u8, before: [u8; 560], after: [u8; 560]) {
+    let bytes = basics::block_at(&after, row);
+    if !basics::is_same(&basics::block_at(&before, row), &bytes) {
+        write_field(row, bytes);
+    }
+}
+
+fn write_new_fields(before: [u8; 560], after: [u8; 560]) {
+    let mut row: u8 = 0;
+    while row < ROWS {
+        write_where_new(row, before, after);
+        row += 1;
+    }
+}
+
+// The fields in which a device differs from the one before.
+fn write_change(before: Device, after: Device) {
+    if same_device(before, after) {
+        write(b", no change");
+    } else {
+        write_new_fields(image_of(before), image_of(after));
+    }
 }
 
 // ---- the end of a line
 
-fn write_given(after: Device, reads: bool, shown: &[u8]) {
+fn write_given(before: Device, after: Device, reads: bool, shown: &[u8]) {
     if shown.len() > 0 {
         write_hex(b", ", shown);
     }
     if !reads {
-        write_record(after);
+        write_change(before, after);
     }
 }
 
-// A command that only reads changes no device, whatever it answers.
-fn write_changes(refused: bool, same: bool, clean: bool, reads: bool) {
+// Whether all is as it was that should be: a refusal changes nothing, and a command that only reads no device.
+fn write_kept(refused: bool, same: bool, clean: bool, reads: bool) {
     let kept = same & clean;
     if refused & kept {
         write(b", nothing changed");
@@ -468,9 +519,9 @@ fn finish(
 ) -> Bench {
     write_answer(answer);
     if answer == 0 {
-        write_given(after, reads, shown);
+        write_given(bench.device, after, reads, shown);
     }
-    write_changes(answer != 0, same_device(bench.device, after), clean, reads);
+    write_kept(answer != 0, same_device(bench.device, after), clean, reads);
     with_device(bench, after)
 }
 
@@ -478,7 +529,7 @@ fn finish(
 fn finish_number(bench: Bench, answer: u8, after: Device, given: u8) -> Bench {
     write_answer(answer);
     write_number(b", gives ", given as u64);
-    write_changes(answer != 0, same_device(bench.device, after), true, true);
+    write_kept(answer != 0, same_device(bench.device, after), true, true);
     with_device(bench, after)
 }
 
@@ -552,7 +603,7 @@ fn tried(device: Device, command: u8, n: [u64; 12]) -> Used {
         answer: reply.answer,
         device: after,
         clean: is_filler(output),
-        block: device::block_at(last_block(output), 0),
+        block: basics::block_at(last_block(output), 0),
     }
 }
 
@@ -640,7 +691,7 @@ fn roles(device: Device, to: u8) {
 
 // The key that the cases give to a slot: one of unlike bytes, and another for each.
 fn slot_key(slot: u8) -> [u8; 16] {
-    aes::encrypt(device::block_at(&SEED, 0), [slot; 16])
+    aes::encrypt(basics::block_at(&SEED, 0), [slot; 16])
 }
 
 // The key under which the sender writes. It knows whether the authority is still empty.
@@ -649,7 +700,7 @@ fn sender_key(device: Device, authority: u8) -> [u8; 16] {
         return [0xff; 16];
     }
     if authority == device::SECRET_KEY {
-        return device::block_at(&SECRET, 0);
+        return basics::block_at(&SECRET, 0);
     }
     slot_key(authority)
 }
@@ -673,8 +724,8 @@ fn first_block(counter: u64, flags: u64, bit: u64) -> [u8; 16] {
 }
 
 // M2.
-fn enciphered(secret: [u8; 16], first: [u8; 16], key: [u8; 16]) -> [u8; 32] {
-    let k1 = modes::derive(secret, Constant::KeyUpdateEnc);
+fn enciphered(authkey: [u8; 16], first: [u8; 16], key: [u8; 16]) -> [u8; 32] {
+    let k1 = modes::derive(authkey, Constant::KeyUpdateEnc);
     let mut clear = [0u8; 32];
     put(&mut clear, 0, &first);
     put(&mut clear, 16, &key);
@@ -684,8 +735,8 @@ fn enciphered(secret: [u8; 16], first: [u8; 16], key: [u8; 16]) -> [u8; 32] {
 }
 
 // M3.
-fn signature(secret: [u8; 16], messages: [u8; 112]) -> [u8; 16] {
-    let k2 = modes::derive(secret, Constant::KeyUpdateMac);
+fn signature(authkey: [u8; 16], messages: [u8; 112]) -> [u8; 16] {
+    let k2 = modes::derive(authkey, Constant::KeyUpdateMac);
     let mut m3 = [0u8; 16];
     modes::cmac(&k2, 384, front(&messages, 48), &mut m3);
     m3
@@ -705,21 +756,21 @@ fn with_two_blocks(messages: [u8; 112], at: usize, part: [u8; 32]) -> [u8; 112] 
 }
 
 // M1 to M3, by hand: the writer of key messages would refuse some of them.
-fn sealed(secret: [u8; 16], m1: [u8; 16], m2: [u8; 32]) -> [u8; 112] {
+fn sealed(authkey: [u8; 16], m1: [u8; 16], m2: [u8; 32]) -> [u8; 112] {
     let signed = with_two_blocks(with_block([0; 112], 0, m1), 16, m2);
-    with_block(signed, 48, signature(secret, signed))
+    with_block(signed, 48, signature(authkey, signed))
 }
 
 // The messages that a line asks for, without a bit of them changed.
 fn written(device: Device, n: [u64; 12]) -> [u8; 112] {
     let target = byte_of(n[0]) % 16;
     let authority = byte_of(n[1]) % 16;
-    let secret = sender_key(device, authority);
+    let authkey = sender_key(device, authority);
     let first = first_block(n[2], n[3], n[5]);
-    let m2 = enciphered(secret, first, slot_key(target));
+    let m2 = enciphered(authkey, first, slot_key(target));
     let mut m1 = uid_of(n[4]);
     m1[15] = 16 * target + authority;
-    sealed(secret, m1, m2)
+    sealed(authkey, m1, m2)
 }
 
 // ---- LOAD_KEY
@@ -850,12 +901,17 @@ fn made(n: [u64; 12]) -> Reply {
     )
 }
 
+// The end of a line that makes the device anew.
+fn finish_new(bench: Bench, device: Device) -> Bench {
+    write_change(bench.device, device);
+    write(b"\n");
+    with_device(bench, device)
+}
+
 fn make(bench: Bench, n: [u64; 12]) -> Bench {
     let reply = made(n);
     write_answer(reply.answer);
-    write_record(reply.device);
-    write(b"\n");
-    with_device(bench, reply.device)
+    finish_new(bench, reply.device)
 }
 
 fn with_key(device: Device, slot: u8, flags: u64) -> Device {
@@ -873,6 +929,11 @@ fn prepared(last: u8, flags: u64) -> Device {
         device = with_key(device, slot, flags);
     }
     device
+}
+
+fn prepare(bench: Bench, last: u8, flags: u64) -> Bench {
+    write(b": made");
+    finish_new(bench, prepared(last, flags))
 }
 
 fn load_plain_key(bench: Bench, slot: u64, size: u64) -> Bench {
@@ -896,24 +957,14 @@ fn with_slot_field(device: Device, field: u64, at: usize, value: u64) -> Device 
     after
 }
 
-fn with_block_field(device: Device, field: u64, at: usize, value: u8) -> Device {
+fn with_byte_field(device: Device, field: u64, at: usize, value: u8) -> Device {
     let mut after = device;
     match field {
         0 => after.keys[at % 240] = value,
         5 => after.seed[at % 16] = value,
         6 => after.state[at % 16] = value,
-        _ => after.rngkey[at % 16] = value,
-    }
-    after
-}
-
-fn with_mark(device: Device, field: u64, value: u8) -> Device {
-    let mut after = device;
-    match field {
-        8 => after.rng = value,
-        9 => after.plain = value,
-        10 => after.debugger = value,
-        _ => after.made = value,
+        7 => after.rngkey[at % 16] = value,
+        _ => after.marks[at % 7] = value,
     }
     after
 }
@@ -921,8 +972,7 @@ fn with_mark(device: Device, field: u64, value: u8) -> Device {
 fn with_field(device: Device, field: u64, at: u64, value: u64) -> Device {
     match field {
         1..=4 => with_slot_field(device, field, at as usize, value),
-        0 | 5..=7 => with_block_field(device, field, at as usize, byte_of(value)),
-        _ => with_mark(device, field, byte_of(value)),
+        _ => with_byte_field(device, field, at as usize, byte_of(value)),
     }
 }
 
@@ -942,7 +992,6 @@ fn show(device: Device, command: u8, n: [u64; 12]) {
 fn run_other(bench: Bench, command: u8, n: [u64; 12]) -> Bench {
     write(b"\n");
     match command {
-        DEVICE => with_device(bench, prepared(byte_of(n[0]), n[1])),
         SET => with_device(bench, with_field(bench.device, n[0], n[1], n[2])),
         _ => {
             show(bench.device, command, n);
@@ -972,6 +1021,7 @@ fn run_command(bench: Bench, command: u8, n: [u64; 12]) -> Bench {
         LOAD_KEY => load_key(bench, n),
         EXPORT_RAM_KEY => finish_messages(bench, exported(bench.device, n), 0, true),
         MAKE => make(bench, n),
+        DEVICE => prepare(bench, byte_of(n[0]), n[1]),
         _ => run_other(bench, command, n),
     }
 }
@@ -983,7 +1033,7 @@ fn no_command(bench: Bench) -> Bench {
 
 fn run_line(bench: Bench, line: &[u8]) -> Bench {
     write(line);
-    match device::byte_at(line, 0) {
+    match basics::byte_at(line, 0) {
         0 | b'#' => no_command(bench),
         _ => run_command(bench, command_of(line), numbers_of(line)),
     }

@@ -1,4 +1,4 @@
 pub mod Agreement
+pub mod Effects
 pub mod Making
 pub mod Passed
-pub mod Sound

@@ -7,26 +7,28 @@ use Prim.Native.Nat.{ℕ}
 use native.Mathlib.Omega.{arith}
 use borrow.Author.Tests.{not-false}
 use lib.ListN.{length}
-use Rattle.laws.specs.Lengths.{right}
+use Rattle.laws.specs.Lengths.{rightLengths}
 use Rattle.laws.specs.Same.{same}
 use Rattle.laws.proofs.Lengths.{each-right}
 use Rattle.laws.proofs.Same.{equal-same}
 use Rattle.aes.specs.State.{Bytes}
-use Rattle.modes.specs.Answer.{noError, generalError}
-use Rattle.message.proofs.Faults.{no-fault}
+use Rattle.basics.specs.Answers.{noError, generalError}
+use Rattle.basics.proofs.Faults.{no-fault}
 use Rattle.device.specs.Made.{zeroUid, blank, fresh, Sound}
 use Rattle.device.specs.Outcome.{refused, done}
 use Rattle.device.proofs.Made.{fresh-sound}
-use Rattle.device.proofs.Outcome.{is-refused, is-done, same-answer}
+use Rattle.device.proofs.Account.{where-refused, where-done, same-answer}
 use Rattle.commands.specs.Commands.{makeAnswer, make}
 
 module _ (uid secret seed : List ℕ) where
   abbrev lengths : Bool
-  lengths = right ((length uid, 15) ∷ (length secret, 16) ∷ (length seed, 16) ∷ [])
+  lengths = rightLengths ((length uid, 15) ∷ (length secret, 16) ∷ (length seed, 16) ∷ [])
 
   answer-is : make uid secret seed .answer ≡ makeAnswer uid (length secret) (length seed)
   unfolding make
-  answer-is = same-answer (makeAnswer uid (length secret) (length seed)) blank [] (done (fresh uid secret seed) 0 []) refl
+  answer-is =
+      let answer = makeAnswer uid (length secret) (length seed) in
+      same-answer answer (done (fresh uid secret seed) 0 []) (refused answer blank []) refl refl
 
   pub make-passed : make uid secret seed .answer ≡ noError → (lengths ≡ true) × (same uid zeroUid ≡ false)
   unfolding makeAnswer
@@ -35,7 +37,7 @@ module _ (uid secret seed : List ℕ) where
       (not-false lengths (one .0), no-fault (same uid zeroUid) generalError noError (λ z. omega arith) (one .1) .0)
 
   pub make-passes : length uid ≡ 15 → length secret ≡ 16 → length seed ≡ 16 → (uid ≡ zeroUid → ⊥) → make uid secret seed .answer ≡ noError
-  unfolding makeAnswer right
+  unfolding makeAnswer rightLengths
   make-passes hu hk hs other = answer-is ∙ rw (hu, hk, hs, differs (same uid zeroUid) refl) refl
     where
       differs : (b : Bool) → same uid zeroUid ≡ b → b ≡ false
@@ -46,8 +48,8 @@ module _ (uid secret seed : List ℕ) where
   unfolding make makeAnswer
   make-refused fault =
       let twelve = either-fault (not lengths) (same uid zeroUid) (λ zero. fault (answer-is ∙ zero)) in
-      sym (is-refused generalError (makeAnswer uid (length secret) (length seed)) blank [] (done (fresh uid secret seed) 0 [])
-      (sym twelve) (λ z. omega arith))
+      sym (where-refused generalError (makeAnswer uid (length secret) (length seed)) (done (fresh uid secret seed) 0 [])
+      (λ answer. refused answer blank []) (sym twelve) (λ z. omega arith))
     where
       either-fault : (a b : Bool) → (cond a generalError (cond b generalError noError) ≡ 0 → ⊥)
           → cond a generalError (cond b generalError noError) ≡ generalError
@@ -57,7 +59,9 @@ module _ (uid secret seed : List ℕ) where
 
   pub make-done : make uid secret seed .answer ≡ noError → make uid secret seed ≡ done (fresh uid secret seed) 0 []
   unfolding make
-  make-done zero = sym (is-done _ _ blank [] (done (fresh uid secret seed) 0 []) refl (sym answer-is ∙ zero))
+  make-done zero =
+      let answer = makeAnswer uid (length secret) (length seed) in
+      sym (where-done answer answer (done (fresh uid secret seed) 0 []) (λ answer. refused answer blank []) refl (sym answer-is ∙ zero))
 
   pub make-sound : Bytes secret → make uid secret seed .answer ≡ noError → Sound (fresh uid secret seed)
   make-sound small zero =

@@ -1,24 +1,28 @@
 // The commands that need no key message, with making, reset and the bench call. Each takes the device by value and hands it back.
 //
-// Every command decides first, on numbers alone, by the order of its checks in `specs/Checks.antt`, and a refusal hands back
+// Every command decides first, on numbers alone, by the order of the checks in its account, and a refusal hands back
 // the device as it came in, with no buffer touched. Only then is a key used.
 ghost use mathlib.Core.Path.{_≡_};
 ghost use mathlib.Core.List.{_∷_, [], _++_};
 ghost use Prim.Native.Nat.{_<_};
 ghost use lib.ListN.{length};
 ghost use Rattle.aes.specs.State.{byte};
+ghost use Rattle.device.specs.Account.{perform, answerBy};
 ghost use Rattle.device.specs.Outcome.{outcome};
-ghost use Rattle.commands.specs.Checks.{useAnswer, otherAnswer};
+ghost use Rattle.commands.specs.Checks.{slotChecks};
 ghost use Rattle.commands.specs.Commands.{makeAnswer, make, reset, attachDebugger, encEcb, decEcb, encCbc, decCbc, generateMac, macAgrees, verifyMac, loadPlainKey, initRng, extendSeed, rnd, getStatus, identity, idMac, getId};
+use basics::GENERAL_ERROR;
+use basics::NO_ERROR;
+use device::DEBUGGER_MARK;
 use device::Device;
 use device::OFF;
 use device::ON;
+use device::PLAIN_MARK;
+use device::RNG_MARK;
 use device::Reply;
 use device::Slot;
 use message::Role;
 use modes::Constant;
-use modes::GENERAL_ERROR;
-use modes::NO_ERROR;
 
 pub struct Verdict {
     pub answer: u8,
@@ -54,7 +58,7 @@ fn make_answer(uid: &[u8], secret: usize, seed: usize) -> u8
     if !lengths {
         return GENERAL_ERROR;
     }
-    if message::is_same(uid, &[0u8; 15]) {
+    if basics::is_same(uid, &[0u8; 15]) {
         return GENERAL_ERROR;
     }
     NO_ERROR
@@ -74,16 +78,16 @@ pub fn make(uid: &[u8], secret: &[u8], seed: &[u8]) -> Reply
     Reply {
         answer: NO_ERROR,
         device: device::fresh(
-            device::uid_from(uid),
-            device::block_at(secret, 0),
-            device::block_at(seed, 0),
+            basics::uid_from(uid),
+            basics::block_at(secret, 0),
+            basics::block_at(seed, 0),
         ),
     }
 }
 
 // The answer of a command that uses no slot: not made, lengths, and one reason of its own.
 fn own_answer(device: Device, lengths: bool, fault: bool, number: u8) -> u8
-    ensures { λ r. ⌜ r ≡ otherAnswer device lengths ((fault, number) ∷ []) ⌝ }
+    ensures { λ r. ⌜ r ≡ answerBy device lengths ((fault, number) ∷ []) ⌝ }
 {
     if !device::is_made(device) {
         return GENERAL_ERROR;
@@ -99,14 +103,14 @@ fn own_answer(device: Device, lengths: bool, fault: bool, number: u8) -> u8
 
 // And of one that has none of its own.
 fn other_answer(device: Device, lengths: bool) -> u8
-    ensures { λ r. ⌜ r ≡ otherAnswer device lengths [] ⌝ }
+    ensures { λ r. ⌜ r ≡ answerBy device lengths [] ⌝ }
 {
     own_answer(device, lengths, false, NO_ERROR)
 }
 
 // Power is lost: slot 14, the random numbers and the debugger go.
 pub fn reset(device: Device) -> Reply
-    ensures { λ r. ⌜ outcome (r .answer) (r .device) 0 [] ≡ reset device ⌝ }
+    ensures { λ r. ⌜ outcome (r .answer) (r .device) 0 [] ≡ perform reset device ⌝ }
 {
     let answer = other_answer(device, true);
     if answer != NO_ERROR {
@@ -118,9 +122,9 @@ pub fn reset(device: Device) -> Reply
     let mut quiet = device;
     quiet.state = [0u8; 16];
     quiet.rngkey = [0u8; 16];
-    quiet.rng = OFF;
-    quiet.plain = OFF;
-    quiet.debugger = OFF;
+    quiet.marks[RNG_MARK] = OFF;
+    quiet.marks[PLAIN_MARK] = OFF;
+    quiet.marks[DEBUGGER_MARK] = OFF;
     let nothing = Slot {
         key: [0u8; 16],
         counter: 0,
@@ -134,7 +138,7 @@ pub fn reset(device: Device) -> Reply
 }
 
 pub fn attach_debugger(device: Device) -> Reply
-    ensures { λ r. ⌜ outcome (r .answer) (r .device) 0 [] ≡ attachDebugger device ⌝ }
+    ensures { λ r. ⌜ outcome (r .answer) (r .device) 0 [] ≡ perform attachDebugger device ⌝ }
 {
     let answer = other_answer(device, true);
     if answer != NO_ERROR {
@@ -144,7 +148,7 @@ pub fn attach_debugger(device: Device) -> Reply
         };
     }
     let mut after = device;
-    after.debugger = ON;
+    after.marks[DEBUGGER_MARK] = ON;
     Reply {
         answer: NO_ERROR,
         device: after,
@@ -155,7 +159,7 @@ pub fn attach_debugger(device: Device) -> Reply
 
 // The answer of a command that uses a slot. The slot's key has no part in it, but that an empty slot must be zero.
 fn use_answer(device: Device, lengths: bool, slot: u8, role: Role) -> u8
-    ensures { λ r. ⌜ r ≡ useAnswer device lengths slot role ⌝ }
+    ensures { λ r. ⌜ r ≡ answerBy device lengths (slotChecks device slot role) ⌝ }
 {
     if !device::is_made(device) {
         return GENERAL_ERROR;
@@ -164,22 +168,22 @@ fn use_answer(device: Device, lengths: bool, slot: u8, role: Role) -> u8
         return GENERAL_ERROR;
     }
     if !message::has_role(slot, role) {
-        return message::KEY_INVALID;
+        return basics::KEY_INVALID;
     }
     if device::is_empty(device, slot) {
-        return device::KEY_EMPTY;
+        return basics::KEY_EMPTY;
     }
     if device::is_locked(device, slot) {
-        return device::KEY_NOT_AVAILABLE;
+        return basics::KEY_NOT_AVAILABLE;
     }
     if !device::usage_fits(slot, device::flags_at(device, slot), role) {
-        return message::KEY_INVALID;
+        return basics::KEY_INVALID;
     }
     NO_ERROR
 }
 
 pub fn enc_ecb(device: Device, slot: u8, input: &[u8], output: &mut [u8]) -> Reply
-    ensures { λ r. ⌜ outcome (r .answer) (r .device) 0 (now (output .exit) ∷ []) ≡ encEcb device slot (now (input .entry)) (now (output .entry)) ⌝ }
+    ensures { λ r. ⌜ outcome (r .answer) (r .device) 0 (now (output .exit) ∷ []) ≡ perform (encEcb slot (now (input .entry)) (now (output .entry))) device ⌝ }
 {
     let lengths = modes::three_blocks(16, input.len(), output.len());
     let answer = use_answer(device, lengths, slot, Role::Cipher);
@@ -197,7 +201,7 @@ pub fn enc_ecb(device: Device, slot: u8, input: &[u8], output: &mut [u8]) -> Rep
 }
 
 pub fn dec_ecb(device: Device, slot: u8, input: &[u8], output: &mut [u8]) -> Reply
-    ensures { λ r. ⌜ outcome (r .answer) (r .device) 0 (now (output .exit) ∷ []) ≡ decEcb device slot (now (input .entry)) (now (output .entry)) ⌝ }
+    ensures { λ r. ⌜ outcome (r .answer) (r .device) 0 (now (output .exit) ∷ []) ≡ perform (decEcb slot (now (input .entry)) (now (output .entry))) device ⌝ }
 {
     let lengths = modes::three_blocks(16, input.len(), output.len());
     let answer = use_answer(device, lengths, slot, Role::Cipher);
@@ -215,7 +219,7 @@ pub fn dec_ecb(device: Device, slot: u8, input: &[u8], output: &mut [u8]) -> Rep
 }
 
 pub fn enc_cbc(device: Device, slot: u8, iv: &[u8], input: &[u8], output: &mut [u8]) -> Reply
-    ensures { λ r. ⌜ outcome (r .answer) (r .device) 0 (now (output .exit) ∷ []) ≡ encCbc device slot (now (iv .entry)) (now (input .entry)) (now (output .entry)) ⌝ }
+    ensures { λ r. ⌜ outcome (r .answer) (r .device) 0 (now (output .exit) ∷ []) ≡ perform (encCbc slot (now (iv .entry)) (now (input .entry)) (now (output .entry))) device ⌝ }
 {
     let lengths = modes::cbc_lengths(16, iv.len(), input.len(), output.len());
     let answer = use_answer(device, lengths, slot, Role::Cipher);
@@ -233,7 +237,7 @@ pub fn enc_cbc(device: Device, slot: u8, iv: &[u8], input: &[u8], output: &mut [
 }
 
 pub fn dec_cbc(device: Device, slot: u8, iv: &[u8], input: &[u8], output: &mut [u8]) -> Reply
-    ensures { λ r. ⌜ outcome (r .answer) (r .device) 0 (now (output .exit) ∷ []) ≡ decCbc device slot (now (iv .entry)) (now (input .entry)) (now (output .entry)) ⌝ }
+    ensures { λ r. ⌜ outcome (r .answer) (r .device) 0 (now (output .exit) ∷ []) ≡ perform (decCbc slot (now (iv .entry)) (now (input .entry)) (now (output .entry))) device ⌝ }
 {
     let lengths = modes::cbc_lengths(16, iv.len(), input.len(), output.len());
     let answer = use_answer(device, lengths, slot, Role::Cipher);
@@ -252,7 +256,7 @@ pub fn dec_cbc(device: Device, slot: u8, iv: &[u8], input: &[u8], output: &mut [
 
 // The MAC of so many bits of a message.
 pub fn generate_mac(device: Device, slot: u8, bits: u64, message: &[u8], mac: &mut [u8]) -> Reply
-    ensures { λ r. ⌜ outcome (r .answer) (r .device) 0 (now (mac .exit) ∷ []) ≡ generateMac device slot bits (now (message .entry)) (now (mac .entry)) ⌝ }
+    ensures { λ r. ⌜ outcome (r .answer) (r .device) 0 (now (mac .exit) ∷ []) ≡ perform (generateMac slot bits (now (message .entry)) (now (mac .entry))) device ⌝ }
 {
     let lengths = modes::cmac_lengths(16, bits, message.len(), mac.len());
     let answer = use_answer(device, lengths, slot, Role::GenerateMac);
@@ -275,11 +279,11 @@ fn mac_agrees(bits: u8, a: [u8; 16], b: [u8; 16]) -> bool
     ensures { λ r. ⌜ r ≡ macAgrees bits a b ⌝ }
 {
     if bits == 0 {
-        return message::is_same(&a, &b);
+        return basics::is_same(&a, &b);
     }
     let whole = (bits / 8) as usize;
     let rest = 8 - (bits % 8) as u32;
-    let first = message::is_same(&a[..whole], &b[..whole]);
+    let first = basics::is_same(&a[..whole], &b[..whole]);
     first & ((a[whole] as u32) >> rest == (b[whole] as u32) >> rest)
 }
 
@@ -292,7 +296,7 @@ pub fn verify_mac(
     mac: &[u8],
     macbits: u8,
 ) -> Verdict
-    ensures { λ r. ⌜ outcome (r .answer) (r .device) (r .verdict) [] ≡ verifyMac device slot bits (now (message .entry)) (now (mac .entry)) macbits ⌝ }
+    ensures { λ r. ⌜ outcome (r .answer) (r .device) (r .verdict) [] ≡ perform (verifyMac slot bits (now (message .entry)) (now (mac .entry)) macbits) device ⌝ }
 {
     let lengths = modes::cmac_lengths(16, bits, message.len(), mac.len()) & (macbits <= 127);
     let answer = use_answer(device, lengths, slot, Role::VerifyMac);
@@ -305,7 +309,7 @@ pub fn verify_mac(
     }
     let mut expected = [0u8; 16];
     modes::cmac(&device::key_at(device, slot), bits, message, &mut expected);
-    let agrees = mac_agrees(macbits, expected, device::block_at(mac, 0));
+    let agrees = mac_agrees(macbits, expected, basics::block_at(mac, 0));
     Verdict {
         answer: NO_ERROR,
         device: device,
@@ -315,7 +319,7 @@ pub fn verify_mac(
 
 // Sixteen bytes into slot 14, not empty, plain.
 pub fn load_plain_key(device: Device, key: &[u8]) -> Reply
-    ensures { λ r. ⌜ outcome (r .answer) (r .device) 0 [] ≡ loadPlainKey device (now (key .entry)) ⌝ }
+    ensures { λ r. ⌜ outcome (r .answer) (r .device) 0 [] ≡ perform (loadPlainKey (now (key .entry))) device ⌝ }
 {
     let answer = other_answer(device, key.len() == 16);
     if answer != NO_ERROR {
@@ -325,9 +329,9 @@ pub fn load_plain_key(device: Device, key: &[u8]) -> Reply
         };
     }
     let mut marked = device;
-    marked.plain = ON;
+    marked.marks[PLAIN_MARK] = ON;
     let new = Slot {
-        key: device::block_at(key, 0),
+        key: basics::block_at(key, 0),
         counter: 0,
         flags: 0,
         empty: OFF,
@@ -342,9 +346,14 @@ pub fn load_plain_key(device: Device, key: &[u8]) -> Reply
 
 // Once per reset: the seed moves on, so that no two power cycles begin alike.
 pub fn init_rng(device: Device) -> Reply
-    ensures { λ r. ⌜ outcome (r .answer) (r .device) 0 [] ≡ initRng device ⌝ }
+    ensures { λ r. ⌜ outcome (r .answer) (r .device) 0 [] ≡ perform initRng device ⌝ }
 {
-    let answer = own_answer(device, true, device.rng == ON, device::SEQUENCE_ERROR);
+    let answer = own_answer(
+        device,
+        true,
+        device::is_marked(device, RNG_MARK),
+        basics::SEQUENCE_ERROR,
+    );
     if answer != NO_ERROR {
         return Reply {
             answer: answer,
@@ -359,7 +368,7 @@ pub fn init_rng(device: Device) -> Reply
     after.seed = next;
     after.state = next;
     after.rngkey = key;
-    after.rng = ON;
+    after.marks[RNG_MARK] = ON;
     Reply {
         answer: NO_ERROR,
         device: after,
@@ -367,13 +376,13 @@ pub fn init_rng(device: Device) -> Reply
 }
 
 pub fn extend_seed(device: Device, entropy: &[u8]) -> Reply
-    ensures { λ r. ⌜ outcome (r .answer) (r .device) 0 [] ≡ extendSeed device (now (entropy .entry)) ⌝ }
+    ensures { λ r. ⌜ outcome (r .answer) (r .device) 0 [] ≡ perform (extendSeed (now (entropy .entry))) device ⌝ }
 {
     let answer = own_answer(
         device,
         entropy.len() == 16,
-        device.rng != ON,
-        device::RNG_SEED,
+        !device::is_marked(device, RNG_MARK),
+        basics::RNG_SEED,
     );
     if answer != NO_ERROR {
         return Reply {
@@ -381,7 +390,7 @@ pub fn extend_seed(device: Device, entropy: &[u8]) -> Reply
             device: device,
         };
     }
-    let more = device::block_at(entropy, 0);
+    let more = basics::block_at(entropy, 0);
     let old_state = device.state;
     let old_seed = device.seed;
     let state = modes::extend(old_state, more);
@@ -396,13 +405,13 @@ pub fn extend_seed(device: Device, entropy: &[u8]) -> Reply
 }
 
 pub fn rnd(device: Device, output: &mut [u8]) -> Reply
-    ensures { λ r. ⌜ outcome (r .answer) (r .device) 0 (now (output .exit) ∷ []) ≡ rnd device (now (output .entry)) ⌝ }
+    ensures { λ r. ⌜ outcome (r .answer) (r .device) 0 (now (output .exit) ∷ []) ≡ perform (rnd (now (output .entry))) device ⌝ }
 {
     let answer = own_answer(
         device,
         output.len() == 16,
-        device.rng != ON,
-        device::RNG_SEED,
+        !device::is_marked(device, RNG_MARK),
+        basics::RNG_SEED,
     );
     if answer != NO_ERROR {
         return Reply {
@@ -425,7 +434,7 @@ pub fn rnd(device: Device, output: &mut [u8]) -> Reply
 // ---- status and identity
 
 pub fn get_status(device: Device) -> Status
-    ensures { λ r. ⌜ outcome (r .answer) (r .device) (r .status) [] ≡ getStatus device ⌝ }
+    ensures { λ r. ⌜ outcome (r .answer) (r .device) (r .status) [] ≡ perform getStatus device ⌝ }
 {
     let answer = other_answer(device, true);
     if answer != NO_ERROR {
@@ -466,7 +475,7 @@ fn join(a: [u8; 16], b: [u8; 16]) -> [u8; 32]
 fn identity(device: Device) -> [u8; 16]
     ensures { λ r. ⌜ r ≡ identity device ⌝ }
 {
-    let mut block = device::block_at(&device.uid, 0);
+    let mut block = basics::block_at(&device.uid, 0);
     block[15] = device::status_of(device);
     block
 }
@@ -490,13 +499,13 @@ fn id_mac(device: Device, text: [u8; 32]) -> [u8; 16]
 
 // UID and status, with a MAC of them and of a challenge.
 pub fn get_id(device: Device, challenge: &[u8], output: &mut [u8]) -> Reply
-    ensures { λ r. ⌜ outcome (r .answer) (r .device) 0 (now (output .exit) ∷ []) ≡ getId device (now (challenge .entry)) (now (output .entry)) ⌝ }
+    ensures { λ r. ⌜ outcome (r .answer) (r .device) 0 (now (output .exit) ∷ []) ≡ perform (getId (now (challenge .entry)) (now (output .entry))) device ⌝ }
 {
     let answer = own_answer(
         device,
         (challenge.len() == 16) & (output.len() == 32),
         device::is_locked(device, device::MASTER_ECU_KEY),
-        device::KEY_NOT_AVAILABLE,
+        basics::KEY_NOT_AVAILABLE,
     );
     if answer != NO_ERROR {
         return Reply {
@@ -505,7 +514,7 @@ pub fn get_id(device: Device, challenge: &[u8], output: &mut [u8]) -> Reply
         };
     }
     let own = identity(device);
-    let mac = id_mac(device, join(device::block_at(challenge, 0), own));
+    let mac = id_mac(device, join(basics::block_at(challenge, 0), own));
     copy(&join(own, mac), output);
     Reply {
         answer: NO_ERROR,

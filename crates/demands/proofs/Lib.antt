@@ -1,4 +1,5 @@
 pub mod First
+pub mod Laws
 pub mod Lives
 pub mod Runs
 pub mod Second

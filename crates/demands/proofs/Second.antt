@@ -5,56 +5,57 @@ use mathlib.Core.Bool.{Bool, true, false, cond, _&&_}
 use mathlib.Core.List.{List, [], _∷_}
 use mathlib.Core.Logic.{_↔_}
 use mir.Val.{boolByte}
-use Prim.Native.Nat.{ℕ, _-_, _*_, _%_, _≤_}
+use Prim.Native.Nat.{ℕ, _*_, _%_, _≤_}
 use native.Mathlib.Omega.{arith}
 use borrow.Author.Tests.{le-leb, eq-eqb, leb-true}
-use lib.Dec.{eqb, leb}
+use lib.Dec.{leb}
 use lib.ListN.{length}
-use Rattle.laws.specs.Lengths.{right}
+use Rattle.laws.specs.Lengths.{rightLengths}
 use Rattle.laws.specs.Ranges.{within, rowOf}
 use Rattle.laws.proofs.Test.{both}
 use Rattle.aes.specs.Cipher.{cipher, invCipher}
 use Rattle.aes.specs.State.{Bytes, Block}
 use Rattle.aes.proofs.RoundTrip.{inverses, deciphers, enciphers}
-use Rattle.modes.specs.Answer.{noError, threeBlocks, cbcLengths, cmacLengths}
+use Rattle.basics.specs.Answers.{noError}
+use Rattle.modes.specs.Answer.{threeBlocks, cbcLengths, cmacLengths}
 use Rattle.modes.specs.Blocks.{blocks, Text}
 use Rattle.modes.specs.Cbc.{cbcEncrypt, cbcDecrypt}
 use Rattle.modes.specs.Cmac.{cmac, Agree}
 use Rattle.modes.proofs.Cbc.{cbc-deciphers, cbc-enciphers, cbc-encrypted, cbc-decrypted}
 use Rattle.modes.proofs.Lent.{cmac-facts}
 use Rattle.modes.proofs.MacSteps.{mac-block}
-use Rattle.message.specs.Answer.{firstFault}
 use Rattle.message.specs.Slots.{hasRole}
 use Rattle.message.specs.declared.Role.{Role}
 use Rattle.message.specs.declared.Role.the-variants.{Cipher, GenerateMac, VerifyMac}
-use Rattle.device.specs.Checks.{checks}
+use Rattle.device.specs.Account.{answerBy, success}
 use Rattle.device.specs.Made.{made, Sound}
 use Rattle.device.specs.Outcome.{Outcome, done}
 use Rattle.device.specs.Record.{keyAt}
 use Rattle.device.specs.Rules.{usageFits}
 use Rattle.device.specs.declared.Device.{Device}
-use Rattle.device.proofs.Outcome.{made-and-long}
+use Rattle.device.proofs.Account.{made-and-long}
 use Rattle.device.proofs.Record.{key-block}
 use Rattle.commands.specs.Checks.{slotChecks}
-use Rattle.commands.specs.Commands.{macAgrees, compared}
+use Rattle.commands.specs.Commands.{encEcb, decEcb, encCbc, decCbc, generateMac, macAgrees, compared, verifyMac}
 use Rattle.commands.proofs.Agreement.{agrees-exactly}
-use Rattle.demands.specs.Calls.{Call, enc-ecb, dec-ecb, enc-cbc, dec-cbc, generate-mac, verify-mac, step, request, finished}
+use Rattle.demands.specs.Calls.{Call, enc-ecb, dec-ecb, enc-cbc, dec-cbc, generate-mac, verify-mac, account, step}
 use Rattle.demands.specs.Demand2.{Usable, output, yes-verdict, Demand2}
 use Rattle.demands.proofs.Steps.{answer-found, step-done}
 
 -- ---- where it answers 0 it does what is done
-does : (n : ℕ) (d : Device) (call : Call) → step n d call .answer ≡ noError → step n d call ≡ finished n d call
+does : (n : ℕ) (d : Device) (call : Call) → step n d call .answer ≡ noError → step n d call ≡ success (account n call) d
 does n d call zero = step-done n d call (sym (answer-found n d call) ∙ zero)
 
 -- ---- no check finds fault with a usable slot
 module _ (d : Device) (slot : ℕ) (role : Role) (usable : Usable d slot role) where
-  no-slot-fault : (lengths : Bool) → lengths ≡ true → firstFault (checks d lengths (slotChecks d slot role)) ≡ 0
+  no-slot-fault : (lengths : Bool) → lengths ≡ true → answerBy d lengths (slotChecks d slot role) ≡ 0
+  unfolding answerBy
   no-slot-fault lengths long =
       rw (usable .is-sound .1, long, usable .has-role, usable .holds-key, usable .unlocked, usable .fits) refl
 
 -- ---- ECB and CBC
 ecb-lengths : (x out : List ℕ) → length x ≡ 16 → length out ≡ 16 → threeBlocks 16 (length x) (length out) ≡ true
-unfolding threeBlocks right
+unfolding threeBlocks rightLengths
 ecb-lengths x out hx ho = rw (hx, ho) refl
 
 cbc-lengths : (iv x out : List ℕ) (blocks : ℕ) → length iv ≡ 16 → length x ≡ 16 * blocks → 1 ≤ blocks → blocks ≤ 4096
@@ -75,9 +76,11 @@ module _ (n : ℕ) (d : Device) (slot : ℕ) (usable : Usable d slot Cipher) whe
   hk = key-block d slot (usable .is-sound .0)
 
   enciphered : (x out : List ℕ) → length x ≡ 16 → length out ≡ 16 → step n d (enc-ecb slot x out) ≡ done d 0 (cipher key x ∷ [])
+  unfolding encEcb
   enciphered x out hx ho = step-done n d (enc-ecb slot x out) (no-slot-fault d slot Cipher usable _ (ecb-lengths x out hx ho))
 
   deciphered : (x out : List ℕ) → length x ≡ 16 → length out ≡ 16 → step n d (dec-ecb slot x out) ≡ done d 0 (invCipher key x ∷ [])
+  unfolding decEcb
   deciphered x out hx ho = step-done n d (dec-ecb slot x out) (no-slot-fault d slot Cipher usable _ (ecb-lengths x out hx ho))
 
   there-and-back : (text a b : List ℕ) → Block text → length a ≡ 16 → length b ≡ 16
@@ -103,15 +106,17 @@ module _ (n : ℕ) (d : Device) (slot : ℕ) (usable : Usable d slot Cipher) whe
   module _ (iv text a b : List ℕ) (blocks : ℕ) (hi : Block iv) (ht : Text blocks text) (low : 1 ≤ blocks) (high : blocks ≤ 4096)
       (ha : length a ≡ length text) (hb : length b ≡ length text) where
     no-fault : (x out : List ℕ) → Text blocks x → length out ≡ length x
-        → firstFault (checks d (cbcLengths 16 (length iv) (length x) (length out)) (slotChecks d slot Cipher)) ≡ 0
+        → answerBy d (cbcLengths 16 (length iv) (length x) (length out)) (slotChecks d slot Cipher) ≡ 0
     no-fault x out hx ho = no-slot-fault d slot Cipher usable _ (cbc-lengths iv x out blocks (hi .long) (hx .long) low high ho)
 
     chained-out : (x out : List ℕ) → Text blocks x → length out ≡ length x
         → step n d (enc-cbc slot iv x out) ≡ done d 0 (cbcEncrypt (cipher key) iv x ∷ [])
+    unfolding encCbc
     chained-out x out hx ho = step-done n d (enc-cbc slot iv x out) (no-fault x out hx ho)
 
     unchained-out : (x out : List ℕ) → Text blocks x → length out ≡ length x
         → step n d (dec-cbc slot iv x out) ≡ done d 0 (cbcDecrypt (invCipher key) iv x ∷ [])
+    unfolding decCbc
     unchained-out x out hx ho = step-done n d (dec-cbc slot iv x out) (no-fault x out hx ho)
 
     cbc-there-and-back : step n d (dec-cbc slot iv (output (step n d (enc-cbc slot iv text a))) b) ≡ done d 0 (text ∷ [])
@@ -151,6 +156,7 @@ module _ (n : ℕ) (d : Device) (slot bits : ℕ) (message : List ℕ) where
   signed-verifies : (a : List ℕ) (macbits : ℕ) → Usable d slot GenerateMac
       → cmacLengths 16 bits (length message) (length a) ≡ true → macbits ≤ 127
       → step n d (verify-mac slot bits message (output (step n d (generate-mac slot bits message a))) macbits) ≡ done d yes-verdict []
+  unfolding generateMac verifyMac
   signed-verifies a macbits usable long few =
       let made = step-done n d (generate-mac slot bits message a) (no-slot-fault d slot GenerateMac usable _ long) in
       let block = mac-block (keyAt d slot) bits message (key-block d slot (usable .is-sound .0)) in
@@ -164,11 +170,12 @@ module _ (n : ℕ) (d : Device) (slot bits : ℕ) (message : List ℕ) where
   verdict : (given : List ℕ) (macbits : ℕ) → Sound d → Bytes given
       → step n d (verify-mac slot bits message given macbits) .answer ≡ noError
       → (step n d (verify-mac slot bits message given macbits) .value ≡ yes-verdict) ↔ Agree (compared macbits) mac given
+  unfolding verifyMac
   verdict given macbits sound small zero =
       let done = ap (λ (o : Outcome). o .value) (does n d (verify-mac slot bits message given macbits) zero) in
       let none = sym (answer-found n d (verify-mac slot bits message given macbits)) ∙ zero in
       let long = both (cmacLengths 16 bits (length message) (length given)) (leb macbits 127)
-      (made-and-long d (request (verify-mac slot bits message given macbits) .lengths) _ none .1) in
+      (made-and-long d (account n (verify-mac slot bits message given macbits) .lengths) _ none .1) in
       let block : Block given = record { long = cmac-facts 16 bits (length message) (length given) (long .0) .3; small = small } in
       let ours = mac-block (keyAt d slot) bits message (key-block d slot (sound .0)) in
       let exact = agrees-exactly macbits mac given ours block (leb-true macbits 127 (long .1)) in

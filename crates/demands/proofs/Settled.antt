@@ -4,7 +4,7 @@ use mathlib.Core.Path.{_≡_, sym, ap, _∙_, fun-ext, subst⁻¹}
 use Prim.Native.Nat.{ℕ, _≤_}
 use native.Mathlib.Decide.{ℕ-discrete}
 use Rattle.device.specs.Outcome.{refused}
-use Rattle.demands.specs.Calls.{step, request}
+use Rattle.demands.specs.Calls.{account, step}
 use Rattle.demands.specs.Settled.{Settled, ThirdFollows}
 use Rattle.demands.specs.Demand3.{Demand3}
 use Rattle.demands.proofs.Runs.{demand-3}
@@ -18,7 +18,7 @@ demands-settle n machine one two d call = tests (ℕ-discrete (found n d call) 0
     tests (yes none) = two .exact d call (one .by-the-order d call ∙ none) ∙ sym (step-done n d call none)
     tests (no fault) =
         one .refusal-changes-nothing d call (λ zero. fault (sym (one .by-the-order d call) ∙ zero))
-        ∙ ap (λ (answer : ℕ). refused answer d (request call .lent)) (one .by-the-order d call)
+        ∙ ap (λ (answer : ℕ). refused answer d (account n call .lent)) (one .by-the-order d call)
         ∙ sym (step-refused n d call fault)
 
 pub third-follows : (n : ℕ) → n ≤ 100 → ThirdFollows n

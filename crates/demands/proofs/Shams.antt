@@ -6,8 +6,8 @@ use mathlib.Core.List.{List, [], _∷_}
 use mathlib.Core.Logic.{inl}
 use Prim.Native.Nat.{ℕ}
 use native.Mathlib.Omega.{arith}
-use lib.ListN.{length, replicate}
-use Rattle.laws.specs.Lengths.{right}
+use lib.ListN.{replicate}
+use Rattle.laws.specs.Lengths.{rightLengths}
 use Rattle.laws.specs.Ranges.{rowOf}
 use Rattle.laws.specs.Tabulate.{tabulate}
 use Rattle.laws.specs.Xor.{_xor_}
@@ -18,15 +18,19 @@ use Rattle.aes.specs.Schedule.{powerOfX, nextWord, moreWords, keyExpansion}
 use Rattle.aes.specs.Steps.{substitute, subBytes, shiftRows, moveRows, matrix, columns, mixColumns, addRoundKey}
 use Rattle.aes.specs.State.{byte, Block}
 use Rattle.aes.proofs.Bytes.{tested-bytes, zero-block}
-use Rattle.modes.specs.Answer.{noError, threeBlocks, cmacLengths}
+use Rattle.basics.specs.Answers.{noError}
+use Rattle.basics.specs.Bytes.{blockAt}
+use Rattle.modes.specs.Answer.{threeBlocks, cmacLengths}
 use Rattle.modes.specs.Blocks.{zeroBlock}
 use Rattle.message.specs.Slots.{hasRole, counterKept}
 use Rattle.message.specs.declared.Role.the-variants.{Cipher}
+use Rattle.device.specs.Account.{answerBy}
 use Rattle.device.specs.Made.{blank}
 use Rattle.device.specs.Rules.{kept, locked, usageFits}
 use Rattle.device.specs.Outcome.{Outcome}
-use Rattle.device.specs.Record.{masterEcuKey, ramKey, blockAt, keyAt, flagsAt, emptyAt, putSlot}
+use Rattle.device.specs.Record.{masterEcuKey, ramKey, keyAt, flagsAt, emptyAt, putSlot}
 use Rattle.device.specs.declared.Device.{Device}
+use Rattle.commands.specs.Commands.{encEcb, verifyMac, loadPlainKey}
 use Rattle.load.specs.Rules.{authorityKey, counterRises, loaded}
 use Rattle.message.specs.Flags.{flagCount}
 use Rattle.message.specs.Messages.{m1, m4}
@@ -37,7 +41,7 @@ use Rattle.demands.specs.Demand2.{first, output, Demand2}
 use Rattle.demands.specs.Demand3.{Demand3}
 use Rattle.demands.specs.Shams.{RefusesEveryLoad, OneBlockForAll, StoresNothing, ProvesNothing, OnlyTheFirst, MasksSlots, TakesAnyLength, ClearsFirst, Copies, SaysYes, TakesReplays}
 use Rattle.demands.specs.Witness.{master, door, board, keyed, fitted, plain, toKey1, key1, load, text, ciphertext}
-use Rattle.demands.proofs.Witness.{master-loads, key1-loads, plain-sound, plain-usable, master-block, door-carried, fitted-sound, board-sound, key1-m2, key1-m3}
+use Rattle.demands.proofs.Witness.{master-loads, key1-loads, plain-is-sound, plain-usable, master-block, door-carried, fitted-sound, board-sound, key1-m2, key1-m3}
 use Rattle.demands.proofs.First.{making}
 
 text-block : Block text
@@ -54,18 +58,20 @@ plain-key = refl
 -- ---- the first demand
 module _ (machine : Machine) (demand : Demand1 flagCount machine) where
   pub not-masking : MasksSlots machine → ⊥
-  unfolding threeBlocks right hasRole rowOf usageFits locked putSlot
+  unfolding encEcb answerBy threeBlocks rightLengths hasRole rowOf usageFits locked putSlot
   not-masking sham =
       let out : List ℕ = zeroBlock in
-      let none = demand .no-such-slot plain (enc-ecb 0x1e text out) 0x1e (plain-sound .1) refl (inl refl) (omega arith) in
+      let none = demand .no-such-slot plain (enc-ecb 0x1e text out) 0x1e (plain-is-sound .1) refl (inl refl) (omega arith) in
       let found = demand .by-the-order plain (enc-ecb ramKey text out) in
-      let zero : machine plain (enc-ecb ramKey text out) .answer ≡ noError = found ∙ rw (plain-sound .1) refl in
+      let zero : machine plain (enc-ecb ramKey text out) .answer ≡ noError = found ∙ rw (plain-is-sound .1) refl in
       omega (arith, sym none ∙ ap (λ (o : Outcome). o .answer) (sham plain 0x1e text out) ∙ zero)
 
   pub not-any-length : TakesAnyLength machine → ⊥
+  unfolding loadPlainKey
   not-any-length sham = omega (arith, sym (demand .wrong-length board (load-plain-key []) refl) ∙ sham board [] (board-sound .1))
 
   pub not-clearing-first : ClearsFirst machine → ⊥
+  unfolding encEcb
   not-clearing-first sham =
       let call : Call = enc-ecb ramKey text text in
       let twelve = demand .not-made blank call (making .blank-is-not-made) in
@@ -83,6 +89,7 @@ module _ (machine : Machine) (demand : Demand2 flagCount machine) where
       omega (arith, ap (λ (x : List ℕ). byte x 1) (sym (ap output one) ∙ alike ∙ ap output other))
 
   pub not-copying : Copies machine → ⊥
+  unfolding encEcb
   not-copying sham =
       let x : List ℕ = output (machine plain (dec-ecb ramKey text zeroBlock)) in
       let done = demand .ecb-redone plain ramKey text zeroBlock zeroBlock (plain-usable Cipher) text-block refl refl in
@@ -95,16 +102,16 @@ module _ (machine : Machine) (demand : Demand2 flagCount machine) where
 -- and with the first, which says that there is an answer 0
 module _ (machine : Machine) (first : Demand1 flagCount machine) (second : Demand2 flagCount machine) where
   pub not-saying-yes : SaysYes machine → ⊥
-  unfolding cmacLengths hasRole rowOf usageFits locked putSlot
+  unfolding verifyMac answerBy cmacLengths hasRole rowOf usageFits locked putSlot
   not-saying-yes sham =
       let other : List ℕ = 0x80 ∷ replicate 15 0 in
       let call : List ℕ → Call = λ mac. verify-mac ramKey 0 zeroBlock mac 0 in
       let zero : machine plain (call zeroBlock) .answer ≡ noError
-      = first .by-the-order plain (call zeroBlock) ∙ rw (plain-sound .1) refl in
-      let zero′ : machine plain (call other) .answer ≡ noError = first .by-the-order plain (call other) ∙ rw (plain-sound .1) refl in
-      let agree = second .yes-means plain ramKey 0 zeroBlock zeroBlock 0 plain-sound (zero-block .small) zero .0
+      = first .by-the-order plain (call zeroBlock) ∙ rw (plain-is-sound .1) refl in
+      let zero′ : machine plain (call other) .answer ≡ noError = first .by-the-order plain (call other) ∙ rw (plain-is-sound .1) refl in
+      let agree = second .yes-means plain ramKey 0 zeroBlock zeroBlock 0 plain-is-sound (zero-block .small) zero .0
       (sham plain ramKey 0 zeroBlock zeroBlock 0 zero) in
-      let agree′ = second .yes-means plain ramKey 0 zeroBlock other 0 plain-sound (tested-bytes other refl) zero′ .0
+      let agree′ = second .yes-means plain ramKey 0 zeroBlock other 0 plain-is-sound (tested-bytes other refl) zero′ .0
       (sham plain ramKey 0 zeroBlock other 0 zero′) in
       omega (arith, sym (agree 0 (omega arith)) ∙ agree′ 0 (omega arith))
 
@@ -142,7 +149,7 @@ module _ (machine : Machine) (demand : Demand3 flagCount machine) where
   stale = refl
 
   pub not-taking-replays : TakesReplays machine → ⊥
-  unfolding m1 right loaded putSlot kept authorityKey blockAt tabulate
+  unfolding m1 rightLengths loaded putSlot kept authorityKey blockAt tabulate
   not-taking-replays sham =
       let once = key1-loads machine demand in
       let again = subst (λ (d : Device). machine d (load toKey1) .answer ≡ noError) (ap (λ (o : Outcome). o .device) once)

@@ -7,32 +7,32 @@ use Prim.Native.Nat.{ℕ}
 use native.Mathlib.Omega.{arith}
 use lib.ListN.{replicate}
 use Rattle.laws.specs.All.{all}
-use Rattle.laws.specs.Lengths.{right}
+use Rattle.laws.specs.Lengths.{rightLengths}
 use Rattle.laws.specs.Ranges.{rowOf}
 use Rattle.laws.specs.Same.{same}
 use Rattle.laws.specs.Tabulate.{tabulate}
 use Rattle.aes.specs.State.{Block}
 use Rattle.aes.proofs.Bytes.{tested-bytes}
+use Rattle.basics.specs.Answers.{keyInvalid, keyUpdateError}
+use Rattle.basics.specs.Bytes.{blockAt}
 use Rattle.modes.specs.Blocks.{Text}
-use Rattle.message.specs.Answer.{keyInvalid}
 use Rattle.message.specs.Building.{Carried}
 use Rattle.message.specs.Messages.{m1, m2, m3}
 use Rattle.message.proofs.Building.{m2-text, m3-block, handed-back}
 use Rattle.message.specs.Flags.{flagCount}
 use Rattle.message.specs.Slots.{hasRole, flagsKept, counterKept, allowed}
 use Rattle.message.specs.declared.Role.{Role}
-use Rattle.device.specs.Answers.{keyUpdateError}
-use Rattle.device.specs.Made.{made, slotFine, slotsFine, Sound}
-use Rattle.device.specs.Outcome.{done, refused, decided}
-use Rattle.device.specs.Record.{masterEcuKey, ramKey, blockAt, putSlot}
+use Rattle.device.specs.Made.{made, slotFine, slotsFine, marksFine, Sound}
+use Rattle.device.specs.Account.{answerBy, perform}
+use Rattle.device.specs.Outcome.{done, refused, byAnswer}
+use Rattle.device.specs.Record.{masterEcuKey, ramKey, putSlot}
 use Rattle.device.specs.Rules.{kept, locked, usageFits}
-use Rattle.device.proofs.Made.{facts, fresh-sound}
-use Rattle.commands.specs.Checks.{otherAnswer}
-use Rattle.commands.specs.Commands.{makeAnswer, make, loadPlainKey}
-use Rattle.commands.proofs.Sound.{load-plain-key-sound}
-use Rattle.load.specs.Load.{loadAnswer, openedBy, loadKey, taken}
+use Rattle.device.proofs.Made.{fresh-sound}
+use Rattle.commands.specs.Commands.{makeAnswer, make}
+use Rattle.commands.proofs.Effects.{plain-sound}
+use Rattle.load.specs.Load.{openedBy, loadKey, keyLoaded}
 use Rattle.load.specs.Rules.{authorityKey, isForUs, counterRises, plainAfter, loaded}
-use Rattle.load.proofs.Sound.{loaded-sound}
+use Rattle.load.proofs.Effects.{loaded-sound}
 use Rattle.demands.specs.Calls.{load-key, Machine, step}
 use Rattle.demands.specs.Demand2.{Usable}
 use Rattle.demands.specs.Demand3.{Rules, Demand3}
@@ -55,7 +55,7 @@ door-carried = carries door door-block
 
 -- ---- made
 pub board-made : make uid secret seed ≡ done board 0 []
-unfolding make makeAnswer right same decided
+unfolding make makeAnswer rightLengths same byAnswer
 board-made = refl
 
 pub board-sound : Sound board
@@ -68,7 +68,7 @@ unfolding allowed rowOf putSlot locked isForUs same counterRises
 master-rules = record { pair = refl; writable = refl; present = λ empty. refl; unlocked = refl; for-us = refl; rises = refl }
 
 pub master-loads : (machine : Machine) → Demand3 flagCount machine
-    → machine board (load toMaster) ≡ taken board masterEcuKey masterEcuKey 1 0 master
+    → machine board (load toMaster) ≡ keyLoaded board masterEcuKey masterEcuKey 1 0 master
 unfolding authorityKey putSlot
 master-loads machine demand =
     built-loads flagCount machine demand board board-sound uid master masterEcuKey masterEcuKey 1 0 refl
@@ -76,8 +76,7 @@ master-loads machine demand =
 
 pub keyed-sound : Sound keyed
 keyed-sound =
-    loaded-sound board (board-sound .0) (facts board (board-sound .1)) masterEcuKey 1 0 master (omega arith)
-    (omega arith) master-block (omega arith)
+    loaded-sound board board-sound masterEcuKey 1 0 master (omega arith) master-block (omega arith) (omega arith)
 
 -- ---- KEY_1, by the master key
 key1-rules : Rules keyed uid key1 masterEcuKey 1
@@ -85,7 +84,7 @@ unfolding allowed rowOf putSlot locked isForUs same counterRises loaded kept fla
 key1-rules =
     record { pair = refl; writable = refl; present = λ empty. absurd (false≢true empty); unlocked = refl; for-us = refl; rises = refl }
 
-pub key1-loads : (machine : Machine) → Demand3 flagCount machine → machine keyed (load toKey1) ≡ taken keyed key1 masterEcuKey 1 0 door
+pub key1-loads : (machine : Machine) → Demand3 flagCount machine → machine keyed (load toKey1) ≡ keyLoaded keyed key1 masterEcuKey 1 0 door
 unfolding authorityKey putSlot loaded blockAt tabulate
 key1-loads machine demand =
     built-loads flagCount machine demand keyed keyed-sound uid door key1 masterEcuKey 1 0 refl
@@ -93,13 +92,12 @@ key1-loads machine demand =
 
 pub fitted-sound : Sound fitted
 fitted-sound =
-    loaded-sound keyed (keyed-sound .0) (facts keyed (keyed-sound .1)) key1 1 0 door (omega arith) (omega arith) door-block
-    (omega arith)
+    loaded-sound keyed keyed-sound key1 1 0 door (omega arith) door-block (omega arith) (omega arith)
 
 -- ---- a pair that is not allowed: the master key by KEY_1. All of it is computed
 pub mispaired-refused : step flagCount keyed (load-key (m1 uid masterEcuKey key1) (replicate 32 0) (replicate 16 0)
     (replicate 32 0) (replicate 16 0)) ≡ refused keyInvalid keyed (replicate 32 0 ∷ replicate 16 0 ∷ [])
-unfolding loadKey loadAnswer decided right m1 allowed made slotsFine slotFine same counterKept kept flagsKept rowOf all loaded putSlot blockAt tabulate plainAfter
+unfolding loadKey perform answerBy byAnswer rightLengths m1 allowed made slotsFine marksFine slotFine same counterKept kept flagsKept rowOf all loaded putSlot blockAt tabulate plainAfter
 mispaired-refused = refl
 
 -- ---- and the same message again
@@ -110,21 +108,20 @@ pub key1-m3 : Block (toKey1 .m3)
 key1-m3 = m3-block master master-block (toKey1 .m1) (toKey1 .m2)
 
 opens-again : openedBy flagCount fitted (toKey1 .m1) (toKey1 .m2) (toKey1 .m3)
-    ≡ record { genuine = true; counter = 1; flags = 0; zeros = true; key = door }
+    ≡ record { genuine = true; counter = 1; flags = 0; zerofill = true; key = door }
 unfolding m1 authorityKey loaded putSlot blockAt tabulate
 opens-again =
     handed-back flagCount (omega arith) master (toKey1 .m1) (toKey1 .m2) (toKey1 .m3) master-block refl key1-m2 (key1-m3 .long) 1 0 door
     door-carried refl
 
 pub replay-refused : step flagCount fitted (load toKey1) .answer ≡ keyUpdateError
-unfolding m1 right allowed rowOf loaded putSlot kept flagsKept counterKept locked isForUs same counterRises
+unfolding loadKey answerBy m1 rightLengths allowed rowOf loaded putSlot kept flagsKept counterKept locked isForUs same counterRises
 replay-refused = answer-found flagCount fitted (load toKey1) ∙ rw (fitted-sound .1, key1-m2 .long, key1-m3 .long, opens-again) refl
 
 -- ---- a plain RAM key, which can be used for everything
-pub plain-sound : Sound plain
-unfolding loadPlainKey otherAnswer decided made slotsFine slotFine same counterKept kept flagsKept rowOf all putSlot blockAt tabulate
-plain-sound = load-plain-key-sound board board-sound master (tested-bytes master refl)
+pub plain-is-sound : Sound plain
+plain-is-sound = plain-sound board board-sound master master-block
 
 pub plain-usable : (role : Role) → Usable plain ramKey role
 unfolding hasRole usageFits locked rowOf putSlot
-plain-usable role = record { is-sound = plain-sound; has-role = refl; holds-key = refl; unlocked = refl; fits = refl }
+plain-usable role = record { is-sound = plain-is-sound; has-role = refl; holds-key = refl; unlocked = refl; fits = refl }

@@ -9,14 +9,13 @@ use Prim.Native.Nat.{ℕ, _<_}
 use lib.ListN.{length}
 use Rattle.laws.specs.Among.{Among}
 use Rattle.aes.specs.State.{Bytes}
-use Rattle.modes.specs.Answer.{noError, generalError}
-use Rattle.message.specs.Answer.{keyInvalid, firstFault}
-use Rattle.device.specs.Answers.{sequenceError, keyNotAvailable, keyEmpty, keyWriteProtected, keyUpdateError, rngSeed}
+use Rattle.basics.specs.Answers.{noError, generalError, keyInvalid, sequenceError, keyNotAvailable, keyEmpty, keyWriteProtected, keyUpdateError, rngSeed}
 use Rattle.device.specs.Made.{zeroUid, made, blank, fresh, Sound}
+use Rattle.device.specs.Account.{answerTo}
 use Rattle.device.specs.Outcome.{Outcome, refused, done}
 use Rattle.device.specs.Record.{ramKey}
 use Rattle.device.specs.declared.Device.{Device}
-use Rattle.demands.specs.Calls.{Call, Machine, request, inOrder}
+use Rattle.demands.specs.Calls.{Call, account, Machine}
 
 -- the numbers of the paper's table that are given: of its thirteen, four are not yet (5, 9, 10, 11)
 abbrev pub table : List ℕ
@@ -36,15 +35,15 @@ table =
 pub record Demand1 (n : ℕ) (machine : Machine) : Type 0 where
   pub from-the-table : (d : Device) (call : Call) → Among (machine d call .answer) table
   -- the first number that the order gives, and 0 where none applies: there is no other reason to refuse
-  pub by-the-order : (d : Device) (call : Call) → machine d call .answer ≡ firstFault (inOrder n d call)
+  pub by-the-order : (d : Device) (call : Call) → machine d call .answer ≡ answerTo (account n call) d
   -- a bad state, a bad length, a bad slot number: on a record that is not made every call answers 12
   pub not-made : (d : Device) (call : Call) → made d ≡ false → machine d call .answer ≡ generalError
-  pub wrong-length : (d : Device) (call : Call) → request call .lengths ≡ false → machine d call .answer ≡ generalError
-  pub no-such-slot : (d : Device) (call : Call) (slot : ℕ) → made d ≡ true → request call .lengths ≡ true
-      → Among slot (request call .names) → ramKey < slot → machine d call .answer ≡ keyInvalid
+  pub wrong-length : (d : Device) (call : Call) → account n call .lengths ≡ false → machine d call .answer ≡ generalError
+  pub no-such-slot : (d : Device) (call : Call) (slot : ℕ) → made d ≡ true → account n call .lengths ≡ true
+      → Among slot (account n call .names) → ramKey < slot → machine d call .answer ≡ keyInvalid
   -- the device and each lent buffer are as they were, and the verdict or status is 0
   pub refusal-changes-nothing : (d : Device) (call : Call) → (machine d call .answer ≡ noError → ⊥)
-      → machine d call ≡ refused (machine d call .answer) d (request call .lent)
+      → machine d call ≡ refused (machine d call .answer) d (account n call .lent)
 
 -- ---- making, which is given no record and hands out a new one: with right lengths and a UID that isn't zero, and then only,
 -- it hands out a made device; otherwise it answers 12 with the blank one, on which every call answers 12

@@ -9,19 +9,21 @@ use Prim.Native.Nat.{ℕ, _≤_}
 use lib.ListN.{length}
 use Rattle.aes.specs.Cipher.{cipher}
 use Rattle.aes.specs.State.{Bytes, Block}
-use Rattle.modes.specs.Answer.{noError, cmacLengths}
+use Rattle.basics.specs.Answers.{noError}
+use Rattle.modes.specs.Answer.{cmacLengths}
 use Rattle.modes.specs.Blocks.{Text}
 use Rattle.modes.specs.Cmac.{cmac, Agree}
 use Rattle.message.specs.Slots.{hasRole}
 use Rattle.message.specs.declared.Role.{Role}
 use Rattle.message.specs.declared.Role.the-variants.{Cipher, GenerateMac}
 use Rattle.device.specs.Made.{Sound}
+use Rattle.device.specs.Account.{success}
 use Rattle.device.specs.Outcome.{Outcome, done}
-use Rattle.device.specs.Record.{on, isEmpty, keyAt, flagsAt}
+use Rattle.device.specs.Record.{isEmpty, keyAt, flagsAt}
 use Rattle.device.specs.Rules.{locked, usageFits}
 use Rattle.device.specs.declared.Device.{Device}
 use Rattle.commands.specs.Commands.{compared}
-use Rattle.demands.specs.Calls.{Call, Machine, finished, enc-ecb, dec-ecb, enc-cbc, dec-cbc, generate-mac, verify-mac}
+use Rattle.demands.specs.Calls.{Call, account, Machine, enc-ecb, dec-ecb, enc-cbc, dec-cbc, generate-mac, verify-mac}
 
 -- ---- a slot that a made device has for a role, by the paper's rules
 pub record Usable (d : Device) (slot : ℕ) (role : Role) : Type 0 where
@@ -45,7 +47,7 @@ yes-verdict = 1
 
 pub record Demand2 (n : ℕ) (machine : Machine) : Type 0 where
   -- exactly the papers': for any record, any numbers and any bytes, where it answers 0 it leaves what they say
-  pub exact : (d : Device) (call : Call) → machine d call .answer ≡ noError → machine d call ≡ finished n d call
+  pub exact : (d : Device) (call : Call) → machine d call .answer ≡ noError → machine d call ≡ success (account n call) d
   -- ECB of a block, there and back, and back and there
   pub ecb-undone : (d : Device) (slot : ℕ) (text a b : List ℕ) → Usable d slot Cipher → Block text → length a ≡ 16 → length b ≡ 16
       → machine d (dec-ecb slot (output (machine d (enc-ecb slot text a))) b) ≡ done d 0 (text ∷ [])

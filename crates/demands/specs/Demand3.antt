@@ -9,19 +9,19 @@ use mathlib.Core.List.{List}
 use mathlib.Core.Logic.{_↔_}
 use Prim.Native.Nat.{ℕ, _+_, _≤_}
 use lib.ListN.{length}
-use Rattle.laws.specs.Lengths.{right}
+use Rattle.laws.specs.Lengths.{rightLengths}
 use Rattle.aes.specs.State.{Bytes}
-use Rattle.modes.specs.Answer.{noError}
+use Rattle.basics.specs.Answers.{noError}
 use Rattle.message.specs.Building.{uidOf, targetOf, authorityOf, Carried}
 use Rattle.message.specs.Flags.{write}
 use Rattle.message.specs.Messages.{sent, build}
 use Rattle.message.specs.Slots.{allowed}
 use Rattle.device.specs.Made.{made, Sound}
-use Rattle.device.specs.Record.{secretKey, isEmpty, counterAt, flagsAt, slotAt}
+use Rattle.device.specs.Record.{secretKey, plainMark, markAt, isEmpty, counterAt, flagsAt, slotAt, setMark, besideSlots}
 use Rattle.device.specs.Rules.{hasFlag, locked}
 use Rattle.device.specs.declared.Device.{Device}
 use Rattle.device.specs.declared.Slot.{Slot}
-use Rattle.load.specs.Load.{fiveLengths, taken}
+use Rattle.load.specs.Load.{fiveLengths, keyLoaded}
 use Rattle.load.specs.Rules.{authorityKey, isForUs, counterRises, plainAfter, asKept}
 use Rattle.demands.specs.Calls.{Call, Machine, load-key}
 use Rattle.demands.specs.Runs.{run, after, loadsOf, InBytes}
@@ -46,15 +46,8 @@ pub record Loads (n : ℕ) (d : Device) (m1 m2 m3 : List ℕ) (counter flags : �
 -- one slot is new, and nothing else; slot 14's plain mark goes off with it
 pub record OnlyTarget (d : Device) (target : ℕ) (new : Slot) (e : Device) : Type 0 where
   pub target-is : slotAt e target ≡ new
-  pub plain-is : e .plain ≡ plainAfter target (d .plain)
   pub others-stay : (slot : ℕ) → (slot ≡ target → ⊥) → slotAt e slot ≡ slotAt d slot
-  pub uid-stays : e .uid ≡ d .uid
-  pub seed-stays : e .seed ≡ d .seed
-  pub state-stays : e .state ≡ d .state
-  pub random-key-stays : e .rngkey ≡ d .rngkey
-  pub random-mark-stays : e .rng ≡ d .rng
-  pub debugger-stays : e .debugger ≡ d .debugger
-  pub made-stays : e .made ≡ d .made
+  pub all-else-stays : besideSlots e ≡ besideSlots (setMark plainMark (plainAfter target (markAt d plainMark)) d)
 
 pub record LoadsExactly (n : ℕ) (machine : Machine) (d : Device) (m1 m2 m3 b4 b5 : List ℕ) : Type 0 where
   pub exactly-when : (machine d (load-key m1 m2 m3 b4 b5) .answer ≡ noError)
@@ -64,27 +57,27 @@ pub record LoadsExactly (n : ℕ) (machine : Machine) (d : Device) (m1 m2 m3 b4 
       → (c ≡ c′) × (f ≡ f′) × (key ≡ key′)
   -- and the target alone changes, to that record as its slot keeps it
   pub leaves : (c f : ℕ) (key : List ℕ) → Loads n d m1 m2 m3 c f key
-      → machine d (load-key m1 m2 m3 b4 b5) ≡ taken d (targetOf m1) (authorityOf m1) c f key
+      → machine d (load-key m1 m2 m3 b4 b5) ≡ keyLoaded d (targetOf m1) (authorityOf m1) c f key
   pub only-target : (c f : ℕ) (key : List ℕ) → Loads n d m1 m2 m3 c f key
       → OnlyTarget d (targetOf m1) (asKept (targetOf m1) c f key) (machine d (load-key m1 m2 m3 b4 b5) .device)
 
 -- over any sequence of calls
-pub record Runs (machine : Machine) : Type 0 where
-  pub stays-made : (d : Device) (calls : List Call) → Sound d → InBytes calls → Sound (after d (run machine d calls))
+pub record Runs (n : ℕ) (machine : Machine) : Type 0 where
+  pub stays-made : (d : Device) (calls : List Call) → Sound d → InBytes n calls → Sound (after d (run machine d calls))
   -- a non-volatile counter has risen at least by the number of loads of its slot that succeeded: it never falls, and each of them
   -- raises it
-  pub counters-rise : (d : Device) (calls : List Call) (slot : ℕ) → Sound d → InBytes calls → slot ≤ 13
-      → counterAt d slot + loadsOf slot (run machine d calls) ≤ counterAt (after d (run machine d calls)) slot
+  pub counters-rise : (d : Device) (calls : List Call) (slot : ℕ) → Sound d → InBytes n calls → slot ≤ 13
+      → counterAt d slot + loadsOf n slot (run machine d calls) ≤ counterAt (after d (run machine d calls)) slot
   -- a non-volatile slot changes only by a load of it that succeeds; SECRET_KEY and UID never change
-  pub slots-stay : (d : Device) (calls : List Call) (slot : ℕ) → Sound d → InBytes calls → slot ≤ 13
-      → loadsOf slot (run machine d calls) ≡ 0 → slotAt (after d (run machine d calls)) slot ≡ slotAt d slot
-  pub identity-stays : (d : Device) (calls : List Call) → Sound d → InBytes calls
+  pub slots-stay : (d : Device) (calls : List Call) (slot : ℕ) → Sound d → InBytes n calls → slot ≤ 13
+      → loadsOf n slot (run machine d calls) ≡ 0 → slotAt (after d (run machine d calls)) slot ≡ slotAt d slot
+  pub identity-stays : (d : Device) (calls : List Call) → Sound d → InBytes n calls
       → (slotAt (after d (run machine d calls)) secretKey ≡ slotAt d secretKey) × (after d (run machine d calls) .uid ≡ d .uid)
   -- and a record that is not made never changes
   pub unmade-stays : (d : Device) (calls : List Call) → made d ≡ false → after d (run machine d calls) ≡ d
 
 pub record Demand3 (n : ℕ) (machine : Machine) : Type 0 where
   pub loading : (d : Device) (m1 m2 m3 b4 b5 : List ℕ) → Sound d → Bytes m2
-      → right (fiveLengths (length m1) (length m2) (length m3) (length b4) (length b5)) ≡ true
+      → rightLengths (fiveLengths (length m1) (length m2) (length m3) (length b4) (length b5)) ≡ true
       → LoadsExactly n machine d m1 m2 m3 b4 b5
-  pub runs : Runs machine
+  pub runs : Runs n machine

@@ -5,13 +5,14 @@ use mathlib.Core.List.{List, [], _∷_}
 use Prim.Native.Nat.{ℕ}
 use lib.ListN.{length}
 use Rattle.aes.specs.State.{Bytes}
-use Rattle.modes.specs.Answer.{noError}
-use Rattle.message.specs.Writer.{fullForm, answerForm}
+use Rattle.basics.specs.Answers.{noError}
+use Rattle.message.specs.Flags.{flagCount}
+use Rattle.message.specs.Writer.{fullForm, proofForm}
 use Rattle.device.specs.Made.{Sound}
 use Rattle.device.specs.Outcome.{done}
-use Rattle.device.specs.Record.{ramKey, off, keyAt, slotAt}
+use Rattle.device.specs.Record.{ramKey, off, plainMark, markAt, keyAt, slotAt}
 use Rattle.device.specs.declared.Device.{Device}
-use Rattle.load.specs.Load.{taken}
+use Rattle.load.specs.Load.{keyLoaded}
 use Rattle.load.specs.Rules.{authorityKey, asKept}
 use Rattle.demands.specs.Calls.{Call, Machine, load-key, export-ram-key}
 use Rattle.demands.specs.Demand3.{Rules}
@@ -23,15 +24,15 @@ pub record Liveness (machine : Machine) : Type 0 where
       → length b4 ≡ 32 → length b5 ≡ 16 → Rules d uid target authority counter
       → let written = fullForm uid target authority (authorityKey d authority) counter flags key a1 a2 a3 in
       written .answer ≡ noError
-      → machine d (load-key (written .m1) (written .m2) (written .m3) b4 b5) ≡ taken d target authority counter flags key
+      → machine d (load-key (written .m1) (written .m2) (written .m3) b4 b5) ≡ keyLoaded d target authority counter flags key
   -- and the M4 and M5 that the sender's side foresees for a device are those that it leaves
-  pub answer-foreseen : (d : Device) (key b4 b5 : List ℕ) (target authority counter flags : ℕ)
-      → let foreseen = answerForm (d .uid) target authority counter key b4 b5 in
-      foreseen .answer ≡ noError → taken d target authority counter flags key .buffers ≡ foreseen .m4 ∷ foreseen .m5 ∷ []
+  pub proof-foreseen : (d : Device) (key b4 b5 : List ℕ) (target authority counter flags : ℕ)
+      → let foreseen = proofForm (d .uid) target authority counter key b4 b5 in
+      foreseen .answer ≡ noError → keyLoaded d target authority counter flags key .buffers ≡ foreseen .m4 ∷ foreseen .m5 ∷ []
   -- what was exported loads on this device after any calls, resets or others, and gives that key back, not plain
-  pub exported-loads : (d : Device) (b1 b2 b3 b4 b5 m1 m2 m3 m4 m5 c4 c5 : List ℕ) (calls : List Call) → Sound d → InBytes calls
+  pub exported-loads : (d : Device) (b1 b2 b3 b4 b5 m1 m2 m3 m4 m5 c4 c5 : List ℕ) (calls : List Call) → Sound d → InBytes flagCount calls
       → length c4 ≡ 32 → length c5 ≡ 16
       → machine d (export-ram-key b1 b2 b3 b4 b5) ≡ done d 0 (m1 ∷ m2 ∷ m3 ∷ m4 ∷ m5 ∷ [])
       → let later = machine (after d (run machine d calls)) (load-key m1 m2 m3 c4 c5) in
       (later .answer ≡ noError) × (later .buffers ≡ m4 ∷ m5 ∷ [])
-      × (slotAt (later .device) ramKey ≡ asKept ramKey 0 0 (keyAt d ramKey)) × (later .device .plain ≡ off)
+      × (slotAt (later .device) ramKey ≡ asKept ramKey 0 0 (keyAt d ramKey)) × (markAt (later .device) plainMark ≡ off)

@@ -5,11 +5,12 @@ use mathlib.Core.List.{List, [], _∷_}
 use Prim.Native.Nat.{ℕ, _+_}
 use lib.Dec.{eqb}
 use lib.ListN.{getD}
-use Rattle.aes.specs.State.{Bytes}
-use Rattle.modes.specs.Answer.{noError}
+use Rattle.laws.specs.Among.{isAmong}
+use Rattle.basics.specs.Answers.{noError}
+use Rattle.device.specs.Account.{BringsBytes}
 use Rattle.device.specs.Outcome.{Outcome}
 use Rattle.device.specs.declared.Device.{Device}
-use Rattle.demands.specs.Calls.{Call, reset, Machine, request}
+use Rattle.demands.specs.Calls.{Call, reset, account, Machine}
 
 -- a day in the life of a device: each call, with its answer, the device after it and what was put out
 abbrev pub run : Machine → Device → List Call → List (Call × Outcome)
@@ -21,17 +22,15 @@ abbrev pub after : Device → List (Call × Outcome) → Device
 after d [] = d
 after d (entry ∷ day) = after (entry .1 .device) day
 
--- how many loads of a slot succeeded
-abbrev pub isLoadOf : ℕ → Call × Outcome → Bool
-isLoadOf slot entry = request (entry .0) .loads slot && eqb (entry .1 .answer) noError
+module _ (n : ℕ) where
+  -- how many loads of a slot succeeded
+  abbrev pub isLoadOf : ℕ → Call × Outcome → Bool
+  isLoadOf slot entry = isAmong slot (account n (entry .0) .loads) && eqb (entry .1 .answer) noError
 
-abbrev pub loadsOf : ℕ → List (Call × Outcome) → ℕ
-loadsOf slot [] = 0
-loadsOf slot (entry ∷ day) = cond (isLoadOf slot entry) 1 0 + loadsOf slot day
+  abbrev pub loadsOf : ℕ → List (Call × Outcome) → ℕ
+  loadsOf slot [] = 0
+  loadsOf slot (entry ∷ day) = cond (isLoadOf slot entry) 1 0 + loadsOf slot day
 
--- ---- what the types say of calls, for theorems: the buffers that they bring hold bytes
-abbrev pub BringsBytes : Call → Type 0
-BringsBytes call = (k : ℕ) → Bytes (getD (request call .brought) k [])
-
-abbrev pub InBytes : List Call → Type 0
-InBytes calls = (k : ℕ) → BringsBytes (getD calls k reset)
+  -- ---- what the types say of calls, for theorems: the buffers that they bring hold bytes
+  abbrev pub InBytes : List Call → Type 0
+  InBytes calls = (k : ℕ) → BringsBytes (account n (getD calls k reset))

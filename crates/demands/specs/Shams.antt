@@ -6,7 +6,7 @@ use mathlib.Core.Bool.{true, false}
 use mathlib.Core.List.{List, [], _∷_}
 use Prim.Native.Nat.{ℕ, _%_}
 use lib.ListN.{length, replicate}
-use Rattle.modes.specs.Answer.{noError}
+use Rattle.basics.specs.Answers.{noError}
 use Rattle.message.specs.Building.{targetOf, authorityOf}
 use Rattle.device.specs.Made.{made}
 use Rattle.device.specs.Record.{masterEcuKey, isEmpty, flagsAt}

@@ -6,7 +6,7 @@ use lib.ListN.{replicate}
 use Rattle.message.specs.Flags.{flagCount}
 use Rattle.message.specs.Messages.{Sent, build}
 use Rattle.device.specs.Made.{fresh}
-use Rattle.device.specs.Record.{masterEcuKey, ramKey, off, on, putSlot, setPlain}
+use Rattle.device.specs.Record.{masterEcuKey, ramKey, off, on, plainMark, setMark, putSlot}
 use Rattle.device.specs.declared.Device.{Device}
 use Rattle.load.specs.Rules.{loaded}
 use Rattle.demands.specs.Calls.{Call, load-key}
@@ -41,7 +41,7 @@ abbrev pub fitted : Device
 fitted = loaded keyed key1 1 0 door
 
 abbrev pub plain : Device
-plain = putSlot ramKey (record { key = master; counter = 0; flags = 0; empty = off }) (setPlain on board)
+plain = putSlot ramKey (record { key = master; counter = 0; flags = 0; empty = off }) (setMark plainMark on board)
 
 -- ---- the messages: the master key by itself, an empty slot, which counts as 16 bytes of FF; and the door's key by the master key
 abbrev pub toMaster : Sent

@@ -1,4 +1,6 @@
+pub mod Account
+pub mod Effects
 pub mod Made
-pub mod Outcome
+pub mod Marks
 pub mod Record
 pub mod Slots

@@ -9,62 +9,76 @@ use native.Mathlib.Omega.{arith}
 use borrow.Author.Tests.{eqb-true, not-true}
 use lib.Bits.{bitAnd, and-zero-r}
 use lib.Dec.{eqb, leb}
-use lib.ListN.{length}
+use lib.ListN.{length, set}
+use lib.Seq.{getD-set-same, getD-set-other}
 use Rattle.laws.specs.All.{all}
 use Rattle.laws.specs.Ranges.{rowOf}
 use Rattle.laws.specs.Same.{same}
 use Rattle.laws.specs.Tabulate.{tabulate}
 use Rattle.laws.proofs.Test.{both, all-each, each-all}
 use Rattle.aes.proofs.Bytes.{zero-bytes}
-use Rattle.aes.specs.State.{Block, Bytes}
+use Rattle.aes.specs.State.{byte, Block, Bytes}
+use Rattle.basics.specs.Bytes.{blockAt}
 use Rattle.modes.specs.Blocks.{zeroBlock}
 use Rattle.message.specs.FirstBlock.{maxCounter}
 use Rattle.message.specs.Slots.{flagsKept, counterKept}
-use Rattle.device.specs.Made.{isMark, zeroUid, isZero, slotFine, slotsFine, made, unkeyed, fresh, Sound}
-use Rattle.device.specs.Record.{secretKey, ramKey, off, isOn, counterAt, flagsAt, emptyAt, isEmpty, blockAt, slotAt, withSlot, putSlot, setPlain, setDebugger, setRandom, Shaped}
+use Rattle.device.specs.Made.{isMark, zeroUid, isZero, slotFine, slotsFine, marksFine, made, unkeyed, fresh, Sound}
+use Rattle.device.specs.Record.{secretKey, ramKey, off, isOn, markCount, rngMark, plainMark, madeMark, markAt, isMarked, counterAt, flagsAt, emptyAt, isEmpty, slotAt, setMark, withSlot, putSlot, Shaped}
 use Rattle.device.specs.Rules.{kept}
 use Rattle.device.specs.declared.Device.{Device}
 use Rattle.device.specs.declared.Slot.{Slot}
+use Rattle.device.proofs.Marks.{other-mark}
 use Rattle.device.proofs.Slots.{put-fits, that-slot, other-slot, shape-kept}
 
+-- what is asked of UID, slots and marks, each by itself. A change elsewhere leaves this as it is, and says nothing of it
+pub record Fit (uid : List ℕ) (slot : ℕ → Slot) (marks : List ℕ) : Type 0 where
+  pub mark : isOn (byte marks madeMark) ≡ true
+  pub named : not (same uid zeroUid) ≡ true
+  pub slots : (s : ℕ) → s < 15 → slotFine s (slot s) ≡ true
+  pub all-marks : (place : ℕ) → place < markCount → isMark (byte marks place) ≡ true
+
+abbrev pub Fits : Device → Type 0
+Fits d = Fit (d .uid) (slotAt d) (d .marks)
+
+-- and what ties a mark to something else
+abbrev pub PlainFits : Device → Type 0
+PlainFits d = (not (isEmpty d ramKey) || not (isMarked d plainMark)) ≡ true
+
+abbrev pub AtRest : Device → Type 0
+AtRest d = (isMarked d rngMark || (same (d .state) zeroBlock && same (d .rngkey) zeroBlock)) ≡ true
+
 pub record Made (d : Device) : Type 0 where
-  pub mark : isOn (d .made) ≡ true
-  pub named : not (same (d .uid) zeroUid) ≡ true
+  pub fits : Fits d
   pub secret : not (isEmpty d secretKey) ≡ true
-  pub slots : (s : ℕ) → s < 15 → slotFine s (slotAt d s) ≡ true
-  pub ram : (not (isEmpty d ramKey) || eqb (d .plain) off) ≡ true
-  pub at-rest : (isOn (d .rng) || (same (d .state) zeroBlock && same (d .rngkey) zeroBlock)) ≡ true
-  pub rng-mark : isMark (d .rng) ≡ true
-  pub plain-mark : isMark (d .plain) ≡ true
-  pub debugger-mark : isMark (d .debugger) ≡ true
+  pub plain-fits : PlainFits d
+  pub at-rest : AtRest d
 
 pub facts : (d : Device) → made d ≡ true → Made d
-unfolding made slotsFine
+unfolding made slotsFine marksFine
 facts d h =
-    let a = both _ (isMark (d .debugger)) h in
-    let b = both _ (isMark (d .plain)) (a .0) in
-    let c = both _ (isMark (d .rng)) (b .0) in
-    let e = both _ (isOn (d .rng) || (same (d .state) zeroBlock && same (d .rngkey) zeroBlock)) (c .0) in
-    let f = both _ (not (isEmpty d ramKey) || eqb (d .plain) off) (e .0) in
-    let g = both _ (all 15 (λ s. slotFine s (slotAt d s))) (f .0) in
-    let i = both _ (not (isEmpty d secretKey)) (g .0) in
-    let j = both (isOn (d .made)) (not (same (d .uid) zeroUid)) (i .0) in
+    let a = both _ (all markCount (λ place. isMark (markAt d place))) h in
+    let b = both _ (isMarked d rngMark || (same (d .state) zeroBlock && same (d .rngkey) zeroBlock)) (a .0) in
+    let c = both _ (not (isEmpty d ramKey) || not (isMarked d plainMark)) (b .0) in
+    let e = both _ (all 15 (λ s. slotFine s (slotAt d s))) (c .0) in
+    let f = both _ (not (isEmpty d secretKey)) (e .0) in
+    let g = both (isMarked d madeMark) (not (same (d .uid) zeroUid)) (f .0) in
     record {
-      mark = j .0;
-      named = j .1;
-      secret = i .1;
-      slots = all-each 15 (λ s. slotFine s (slotAt d s)) (g .1);
-      ram = f .1;
-      at-rest = e .1;
-      rng-mark = c .1;
-      plain-mark = b .1;
-      debugger-mark = a .1;
+      fits = record {
+        mark = g .0;
+        named = g .1;
+        slots = all-each 15 (λ s. slotFine s (slotAt d s)) (e .1);
+        all-marks = all-each markCount (λ place. isMark (markAt d place)) (a .1);
+      };
+      secret = f .1;
+      plain-fits = c .1;
+      at-rest = b .1;
     }
 
 pub is-made : (d : Device) → Made d → made d ≡ true
-unfolding made slotsFine
+unfolding made slotsFine marksFine
 is-made d m =
-    rw (m .mark, m .named, m .secret, each-all 15 (λ s. slotFine s (slotAt d s)) (m .slots), m .ram, m .at-rest, m .rng-mark, m .plain-mark, m .debugger-mark) refl
+    let f = m .fits in
+    rw (f .mark, f .named, m .secret, each-all 15 (λ s. slotFine s (slotAt d s)) (f .slots), m .plain-fits, m .at-rest, each-all markCount (λ place. isMark (markAt d place)) (f .all-marks)) refl
 
 -- ---- SECRET_KEY is there; a slot that keeps no flags has none
 module _ (d : Device) (m : Made d) where
@@ -76,72 +90,39 @@ module _ (d : Device) (m : Made d) where
   flagless s fits none =
       let counter : Bool = leb (counterAt d s) (counterKept s maxCounter) in
       let flags : Bool = eqb (bitAnd (flagsAt d s) (flagsKept s)) (flagsAt d s) in
-      let three = both (isMark (emptyAt d s) && counter && flags) (not (isEmpty d s) || isZero (slotAt d s)) (m .slots s fits) .0 in
+      let three = both (isMark (emptyAt d s) && counter && flags) (not (isEmpty d s) || isZero (slotAt d s)) (m .fits .slots s fits) .0 in
       let same = eqb-true _ _ (both (isMark (emptyAt d s) && counter) flags three .1) in
       sym same ∙ ap (bitAnd (flagsAt d s)) none ∙ and-zero-r (flagsAt d s)
 
--- ---- changes
-module _ (d : Device) (m : Made d) where
-  pub debugger-set : (mark : ℕ) → isMark mark ≡ true → Made (setDebugger mark d)
-  debugger-set mark h = record {
-    mark = m .mark;
-    named = m .named;
-    secret = m .secret;
-    slots = m .slots;
-    ram = m .ram;
-    at-rest = m .at-rest;
-    rng-mark = m .rng-mark;
-    plain-mark = m .plain-mark;
-    debugger-mark = h;
-  }
-
-  pub random-set : (seed state key : List ℕ) (mark : ℕ) → isMark mark ≡ true
-      → (isOn mark || (same state zeroBlock && same key zeroBlock)) ≡ true → Made (setRandom seed state key mark d)
-  random-set seed state key mark h rest = record {
-    mark = m .mark;
-    named = m .named;
-    secret = m .secret;
-    slots = m .slots;
-    ram = m .ram;
-    at-rest = rest;
-    rng-mark = h;
-    plain-mark = m .plain-mark;
-    debugger-mark = m .debugger-mark;
-  }
-
--- ---- one slot and the plain mark with it, where all else is as it must be
-pub record Ready (d : Device) : Type 0 where
-  pub mark : isOn (d .made) ≡ true
-  pub named : not (same (d .uid) zeroUid) ≡ true
-  pub slots : (s : ℕ) → s < 15 → slotFine s (slotAt d s) ≡ true
-  pub at-rest : (isOn (d .rng) || (same (d .state) zeroBlock && same (d .rngkey) zeroBlock)) ≡ true
-  pub rng-mark : isMark (d .rng) ≡ true
-  pub debugger-mark : isMark (d .debugger) ≡ true
-
-pub made-ready : (d : Device) → Made d → Ready d
-made-ready d m =
-    record { mark = m .mark; named = m .named; slots = m .slots; at-rest = m .at-rest; rng-mark = m .rng-mark; debugger-mark = m .debugger-mark }
-
-module _ (s : ℕ) (new : Slot) (plain : ℕ) (d : Device) (shaped : Shaped d) (fits : s ≤ 14) (long : length (new .key) ≡ 16) where
-  pub slot-set : Ready d → slotFine s new ≡ true → isMark plain ≡ true → not (isEmpty (withSlot s new d) secretKey) ≡ true
-      → (not (isEmpty (withSlot s new d) ramKey) || eqb plain off) ≡ true → Made (withSlot s new (setPlain plain d))
-  slot-set r fine h secret ram = record {
-    mark = r .mark;
-    named = r .named;
-    secret = secret;
-    slots = λ k l. each k l (ℕ-discrete k s);
-    ram = ram;
-    at-rest = r .at-rest;
-    rng-mark = r .rng-mark;
-    plain-mark = h;
-    debugger-mark = r .debugger-mark;
+-- ---- a mark set anew, other than that the device is made
+module _ (place mark : ℕ) (d : Device) (shaped : Shaped d) (room : place < markCount) (h : isMark mark ≡ true) where
+  pub mark-fits : Fits d → (place ≡ madeMark → ⊥) → Fits (setMark place mark d)
+  mark-fits f other = record {
+    mark = other-mark place mark d madeMark (λ e. other (sym e)) ∙ f .mark;
+    named = f .named;
+    slots = f .slots;
+    all-marks = λ k l. each k l (ℕ-discrete k place);
   }
     where
-      each : (k : ℕ) → k < 15 → Dec (k ≡ s) → slotFine k (slotAt (withSlot s new d) k) ≡ true
+      each : (k : ℕ) → k < markCount → Dec (k ≡ place) → isMark (byte (set (d .marks) place mark) k) ≡ true
       each k l (yes e) =
-          subst (λ (n : ℕ). slotFine n (slotAt (withSlot s new d) n) ≡ true) (sym e) (ap (slotFine s) (that-slot s new d shaped fits long) ∙ fine)
-      each k l (no e) = ap (slotFine k) (other-slot s new d shaped fits long k e) ∙ r .slots k l
+          ap (λ (n : ℕ). isMark (byte (set (d .marks) place mark) n)) e
+          ∙ ap isMark (getD-set-same (d .marks) place mark 0 (omega (arith, room, shaped .all-marks))) ∙ h
+      each k l (no e) = ap isMark (getD-set-other (d .marks) place k mark 0 e) ∙ f .all-marks k l
 
+  -- one that nothing is tied to
+  pub mark-set : Made d → (place ≡ madeMark → ⊥) → (place ≡ plainMark → ⊥) → (place ≡ rngMark → ⊥) → Made (setMark place mark d)
+  mark-set m made plain rng = record {
+    fits = mark-fits (m .fits) made;
+    secret = m .secret;
+    plain-fits = ap (λ (b : Bool). not (isEmpty d ramKey) || not b) (other-mark place mark d plainMark (λ e. plain (sym e)))
+        ∙ m .plain-fits;
+    at-rest = ap (λ (b : Bool). b || (same (d .state) zeroBlock && same (d .rngkey) zeroBlock))
+        (other-mark place mark d rngMark (λ e. rng (sym e))) ∙ m .at-rest;
+  }
+
+-- ---- one slot put anew, where all else is as it must be
+module _ (s : ℕ) (new : Slot) (d : Device) (shaped : Shaped d) (fits : s ≤ 14) (long : length (new .key) ≡ 16) where
   -- whether a slot is empty after that
   pub empty-there : isEmpty (withSlot s new d) s ≡ isOn (new .empty)
   empty-there = ap (λ (x : Slot). isOn (x .empty)) (that-slot s new d shaped fits long)
@@ -149,41 +130,58 @@ module _ (s : ℕ) (new : Slot) (plain : ℕ) (d : Device) (shaped : Shaped d) (
   pub empty-elsewhere : (k : ℕ) → (k ≡ s → ⊥) → isEmpty (withSlot s new d) k ≡ isEmpty d k
   empty-elsewhere k e = ap (λ (x : Slot). isOn (x .empty)) (other-slot s new d shaped fits long k e)
 
-  -- so the whole is sound
-  pub put-sound : Bytes (new .key) → Ready d → slotFine s new ≡ true → isMark plain ≡ true → not (isEmpty (withSlot s new d) secretKey) ≡ true
-      → (not (isEmpty (withSlot s new d) ramKey) || eqb plain off) ≡ true → Sound (putSlot s new (setPlain plain d))
-  put-sound small r fine h secret ram =
-      let put = put-fits s new (setPlain plain d) fits in
-      let shape : Shaped (setPlain plain d)
-      = record {
-        keys = shaped .keys;
-        key-bytes = shaped .key-bytes;
-        counters = shaped .counters;
-        flags = shaped .flags;
-        empty = shaped .empty;
-        uid = shaped .uid;
-      } in
-      (subst Shaped (sym put) (shape-kept s new (setPlain plain d) shape fits long small), ap made put ∙ is-made _ (slot-set r fine h secret ram))
+  slot-fits : Fits d → slotFine s new ≡ true → Fits (withSlot s new d)
+  slot-fits f fine = record {
+    mark = f .mark;
+    named = f .named;
+    slots = λ k l. each k l (ℕ-discrete k s);
+    all-marks = f .all-marks;
+  }
+    where
+      each : (k : ℕ) → k < 15 → Dec (k ≡ s) → slotFine k (slotAt (withSlot s new d) k) ≡ true
+      each k l (yes e) =
+          subst (λ (n : ℕ). slotFine n (slotAt (withSlot s new d) n) ≡ true) (sym e) (ap (slotFine s) (that-slot s new d shaped fits long) ∙ fine)
+      each k l (no e) = ap (slotFine k) (other-slot s new d shaped fits long k e) ∙ f .slots k l
+
+  pub put-sound : Bytes (new .key) → Fits d → slotFine s new ≡ true → not (isEmpty (withSlot s new d) secretKey) ≡ true
+      → PlainFits (withSlot s new d) → AtRest d → Sound (putSlot s new d)
+  put-sound small f fine secret plain rest =
+      let put = put-fits s new d fits in
+      let m : Made (withSlot s new d) = record { fits = slot-fits f fine; secret = secret; plain-fits = plain; at-rest = rest } in
+      (subst Shaped (sym put) (shape-kept s new d shaped fits long small), ap made put ∙ is-made (withSlot s new d) m)
 
 -- ---- a new device
 module _ (uid seed : List ℕ) (long : length uid ≡ 15) where
   unkeyed-shape : Shaped (unkeyed uid seed)
-  unkeyed-shape = record { keys = refl; key-bytes = zero-bytes 240; counters = refl; flags = refl; empty = refl; uid = long }
+  unkeyed-shape = record {
+    all-keys = refl;
+    key-bytes = zero-bytes 240;
+    all-counters = refl;
+    all-flags = refl;
+    all-empty = refl;
+    uid-long = long;
+    all-marks = refl;
+  }
 
   unkeyed-slots : all 15 (λ s. slotFine s (slotAt (unkeyed uid seed) s)) ≡ true
   unfolding all slotFine counterKept kept flagsKept rowOf blockAt tabulate same
   unkeyed-slots = refl
 
-  unkeyed-ready : same uid zeroUid ≡ false → Ready (unkeyed uid seed)
-  unfolding same
-  unkeyed-ready other = record {
+  unkeyed-marks : all markCount (λ place. isMark (markAt (unkeyed uid seed) place)) ≡ true
+  unfolding all
+  unkeyed-marks = refl
+
+  unkeyed-fits : same uid zeroUid ≡ false → Fits (unkeyed uid seed)
+  unkeyed-fits other = record {
     mark = refl;
     named = ap not other;
     slots = all-each 15 (λ s. slotFine s (slotAt (unkeyed uid seed) s)) unkeyed-slots;
-    at-rest = refl;
-    rng-mark = refl;
-    debugger-mark = refl;
+    all-marks = all-each markCount (λ place. isMark (markAt (unkeyed uid seed) place)) unkeyed-marks;
   }
+
+  unkeyed-rests : AtRest (unkeyed uid seed)
+  unfolding same
+  unkeyed-rests = refl
 
   module _ (secret : List ℕ) (block : Block secret) where
     new : Slot
@@ -196,6 +194,6 @@ module _ (uid seed : List ℕ) (long : length uid ≡ 15) where
     pub fresh-sound : same uid zeroUid ≡ false → Sound (fresh uid secret seed)
     unfolding new
     fresh-sound other =
-        let there = empty-there 0 new 0 (unkeyed uid seed) unkeyed-shape (omega arith) (block .long) in
-        put-sound 0 new 0 (unkeyed uid seed) unkeyed-shape (omega arith) (block .long) (block .small) (unkeyed-ready other) new-fine refl (ap not there)
-        (or-true (not (isEmpty (withSlot 0 new (unkeyed uid seed)) ramKey)))
+        let there = empty-there 0 new (unkeyed uid seed) unkeyed-shape (omega arith) (block .long) in
+        put-sound 0 new (unkeyed uid seed) unkeyed-shape (omega arith) (block .long) (block .small) (unkeyed-fits other) new-fine (ap not there)
+        (or-true (not (isEmpty (withSlot 0 new (unkeyed uid seed)) ramKey))) unkeyed-rests

@@ -15,7 +15,8 @@ use Rattle.laws.proofs.Paste.{paste-before, paste-at, paste-after}
 use Rattle.laws.proofs.Tabulate.{tabulate-same, tabulate-own}
 use Rattle.aes.proofs.Bytes.{append-bytes, take-bytes, drop-bytes}
 use Rattle.aes.specs.State.{byte, Bytes}
-use Rattle.device.specs.Record.{blockAt, slotAt, withSlot, putSlot, Shaped}
+use Rattle.basics.specs.Bytes.{blockAt}
+use Rattle.device.specs.Record.{slotAt, withSlot, putSlot, Shaped}
 use Rattle.device.specs.declared.Device.{Device}
 use Rattle.device.specs.declared.Slot.{Slot}
 
@@ -40,7 +41,7 @@ paste-bytes l part at n hl hp =
 
 module _ (s : ℕ) (new : Slot) (d : Device) (shaped : Shaped d) (fits : s ≤ 14) (long : length (new .key) ≡ 16) where
   room : 16 * s + 16 ≤ length (d .keys)
-  room = omega (arith, shaped .keys)
+  room = omega (arith, shaped .all-keys)
 
   enough : 16 ≤ length (new .key)
   enough = omega (arith, long)
@@ -49,9 +50,9 @@ module _ (s : ℕ) (new : Slot) (d : Device) (shaped : Shaped d) (fits : s ≤ 1
   unfolding blockAt
   that-slot =
       slot-of (tabulate-same 16 _ _ (λ i h. paste-at (d .keys) (new .key) (16 * s) 16 room enough i h) ∙ tabulate-own 16 (new .key) long)
-      (getD-set-same (d .counters) s (new .counter) 0 (omega (arith, shaped .counters)))
-      (getD-set-same (d .flags) s (new .flags) 0 (omega (arith, shaped .flags)))
-      (getD-set-same (d .empty) s (new .empty) 0 (omega (arith, shaped .empty)))
+      (getD-set-same (d .counters) s (new .counter) 0 (omega (arith, shaped .all-counters)))
+      (getD-set-same (d .flags) s (new .flags) 0 (omega (arith, shaped .all-flags)))
+      (getD-set-same (d .empty) s (new .empty) 0 (omega (arith, shaped .all-empty)))
 
   -- a byte before the slot's, or after them
   beside : (j : ℕ) → (j < 16 * s) ⊎ (16 * s + 16 ≤ j) → byte (paste (d .keys) (16 * s) (new .key) 16) j ≡ byte (d .keys) j
@@ -72,10 +73,11 @@ module _ (s : ℕ) (new : Slot) (d : Device) (shaped : Shaped d) (fits : s ≤ 1
 
   pub shape-kept : Bytes (new .key) → Shaped (withSlot s new d)
   shape-kept small = record {
-    keys = length-paste (d .keys) (16 * s) (new .key) 16 room enough ∙ shaped .keys;
+    all-keys = length-paste (d .keys) (16 * s) (new .key) 16 room enough ∙ shaped .all-keys;
     key-bytes = paste-bytes (d .keys) (new .key) (16 * s) 16 (shaped .key-bytes) small;
-    counters = length-set (d .counters) s (new .counter) ∙ shaped .counters;
-    flags = length-set (d .flags) s (new .flags) ∙ shaped .flags;
-    empty = length-set (d .empty) s (new .empty) ∙ shaped .empty;
-    uid = shaped .uid;
+    all-counters = length-set (d .counters) s (new .counter) ∙ shaped .all-counters;
+    all-flags = length-set (d .flags) s (new .flags) ∙ shaped .all-flags;
+    all-empty = length-set (d .empty) s (new .empty) ∙ shaped .all-empty;
+    uid-long = shaped .uid-long;
+    all-marks = shaped .all-marks;
   }

@@ -1,5 +1,4 @@
-pub mod Answers
-pub mod Checks
+pub mod Account
 pub mod Made
 pub mod Outcome
 pub mod Record

@@ -11,7 +11,7 @@ use Rattle.laws.specs.Same.{same}
 use Rattle.modes.specs.Blocks.{zeroBlock}
 use Rattle.message.specs.FirstBlock.{maxCounter}
 use Rattle.message.specs.Slots.{counterKept}
-use Rattle.device.specs.Record.{secretKey, ramKey, off, on, isOn, isEmpty, slotAt, putSlot, Shaped}
+use Rattle.device.specs.Record.{secretKey, ramKey, off, on, isOn, markCount, rngMark, plainMark, madeMark, markAt, isMarked, isEmpty, slotAt, setMark, putSlot, Shaped}
 use Rattle.device.specs.Rules.{kept}
 use Rattle.device.specs.declared.Device.{Device}
 use Rattle.device.specs.declared.Slot.{Slot}
@@ -38,56 +38,43 @@ slotFine number slot =
 unfoldable pub slotsFine : Device → Bool
 slotsFine d = all 15 (λ number. slotFine number (slotAt d number))
 
+unfoldable pub marksFine : Device → Bool
+marksFine d = all markCount (λ place. isMark (markAt d place))
+
 -- its made mark is on, its UID isn't zero, slot 0 isn't empty, each slot is as it may be (an empty slot 14 is not plain), random
 -- state and key are zero while not initialised; and marks are on or off
 unfoldable pub made : Device → Bool
 made d =
-    isOn (d .made)
+    isMarked d madeMark
     && not (same (d .uid) zeroUid)
     && not (isEmpty d secretKey)
     && slotsFine d
-    && (not (isEmpty d ramKey) || eqb (d .plain) off)
-    && (isOn (d .rng) || (same (d .state) zeroBlock && same (d .rngkey) zeroBlock))
-    && isMark (d .rng)
-    && isMark (d .plain)
-    && isMark (d .debugger)
+    && (not (isEmpty d ramKey) || not (isMarked d plainMark))
+    && (isMarked d rngMark || (same (d .state) zeroBlock && same (d .rngkey) zeroBlock))
+    && marksFine d
 
--- all zero, and not made
-abbrev pub blank : Device
-blank =
+-- ---- the key store is 240 zero bytes, counters and flags are 0, random state and key are zero, and all marks are off
+abbrev pub unset : List ℕ → List ℕ → ℕ → Device
+unset uid seed empty =
     record {
       keys = replicate 240 0;
       counters = replicate 15 0;
       flags = replicate 15 0;
-      empty = replicate 15 off;
-      uid = zeroUid;
-      seed = zeroBlock;
-      state = zeroBlock;
-      rngkey = zeroBlock;
-      rng = off;
-      plain = off;
-      debugger = off;
-      made = off;
-    }
-
--- the key store is 240 zero bytes, then SECRET_KEY is put in; all other slots are empty with counter and flags 0, slot 14 is not
--- plain, the debugger mark is off, random state and key are zero and not initialised
-abbrev pub unkeyed : List ℕ → List ℕ → Device
-unkeyed uid seed =
-    record {
-      keys = replicate 240 0;
-      counters = replicate 15 0;
-      flags = replicate 15 0;
-      empty = replicate 15 on;
+      empty = replicate 15 empty;
       uid = uid;
       seed = seed;
       state = zeroBlock;
       rngkey = zeroBlock;
-      rng = off;
-      plain = off;
-      debugger = off;
-      made = on;
+      marks = replicate markCount off;
     }
+
+-- all zero, and not made
+abbrev pub blank : Device
+blank = unset zeroUid zeroBlock off
+
+-- all slots are empty; then SECRET_KEY is put in
+abbrev pub unkeyed : List ℕ → List ℕ → Device
+unkeyed uid seed = setMark madeMark on (unset uid seed on)
 
 abbrev pub fresh : List ℕ → List ℕ → List ℕ → Device
 fresh uid secret seed = putSlot secretKey (record { key = secret; counter = 0; flags = 0; empty = off }) (unkeyed uid seed)

@@ -1,14 +1,14 @@
--- The device record: what it holds slot by slot, and the same record with a part of it set anew.
+-- The device record: what it holds slot by slot, its marks, and the same record with a part of it set anew.
 -- Assumes nothing.
 use mathlib.Core.Path.{_≡_}
 use mathlib.Core.Bool.{Bool, cond}
-use mathlib.Core.List.{List}
-use Prim.Native.Nat.{ℕ, _+_, _*_}
+use mathlib.Core.List.{List, []}
+use Prim.Native.Nat.{ℕ, _*_}
 use lib.Dec.{eqb, leb}
 use lib.ListN.{length, getD, set}
 use lib.Seq.{paste}
-use Rattle.laws.specs.Tabulate.{tabulate}
-use Rattle.aes.specs.State.{byte, state, Bytes}
+use Rattle.aes.specs.State.{byte, Bytes}
+use Rattle.basics.specs.Bytes.{blockAt}
 use Rattle.device.specs.declared.Device.{Device}
 use Rattle.device.specs.declared.Slot.{Slot}
 
@@ -22,7 +22,8 @@ masterEcuKey = 1
 abbrev pub ramKey : ℕ
 ramKey = 14
 
--- ---- marks
+-- ---- marks, each a byte that is on or off: how many there are, and the places of those that mean something: random numbers are
+-- initialised; slot 14 came in plain; a debugger is attached; the device is made
 abbrev pub off : ℕ
 off = 0
 
@@ -32,12 +33,26 @@ on = 1
 abbrev pub isOn : ℕ → Bool
 isOn mark = eqb mark on
 
--- ---- bytes: a block of a text by its number, and its first 15 bytes; past the end of the text there are zeros
-unfoldable pub blockAt : List ℕ → ℕ → List ℕ
-blockAt text number = state (λ i. byte text (16 * number + i))
+abbrev pub markCount : ℕ
+markCount = 7
 
-unfoldable pub uidFrom : List ℕ → List ℕ
-uidFrom text = tabulate 15 (λ i. byte text i)
+abbrev pub rngMark : ℕ
+rngMark = 0
+
+abbrev pub plainMark : ℕ
+plainMark = 1
+
+abbrev pub debuggerMark : ℕ
+debuggerMark = 2
+
+abbrev pub madeMark : ℕ
+madeMark = 3
+
+abbrev pub markAt : Device → ℕ → ℕ
+markAt d place = byte (d .marks) place
+
+abbrev pub isMarked : Device → ℕ → Bool
+isMarked d place = isOn (markAt d place)
 
 -- ---- what a slot holds: 16 key bytes, a counter, flags, and an empty mark
 abbrev pub keyAt : Device → ℕ → List ℕ
@@ -58,85 +73,54 @@ isEmpty d slot = isOn (emptyAt d slot)
 abbrev pub slotAt : Device → ℕ → Slot
 slotAt d slot = record { key = keyAt d slot; counter = counterAt d slot; flags = flagsAt d slot; empty = emptyAt d slot }
 
--- ---- parts set anew: one slot, the plain mark, the debugger mark, random numbers
+-- ---- parts set anew: all that calls can change, with the rest as in d; then the random numbers, a mark, and one slot
+abbrev pub rebuilt : (keys counters flags empty seed state rngkey marks : List ℕ) → Device → Device
+rebuilt keys counters flags empty seed state rngkey marks d =
+    record {
+      keys = keys;
+      counters = counters;
+      flags = flags;
+      empty = empty;
+      uid = d .uid;
+      seed = seed;
+      state = state;
+      rngkey = rngkey;
+      marks = marks;
+    }
+
+-- seed, state and key
+abbrev pub setRandom : List ℕ → List ℕ → List ℕ → Device → Device
+setRandom seed state key d = rebuilt (d .keys) (d .counters) (d .flags) (d .empty) seed state key (d .marks) d
+
+abbrev pub setMark : ℕ → ℕ → Device → Device
+setMark place mark d =
+    rebuilt (d .keys) (d .counters) (d .flags) (d .empty) (d .seed) (d .state) (d .rngkey) (set (d .marks) place mark) d
+
+abbrev pub withSlots : List ℕ → List ℕ → List ℕ → List ℕ → Device → Device
+withSlots keys counters flags empty d = rebuilt keys counters flags empty (d .seed) (d .state) (d .rngkey) (d .marks) d
+
 abbrev pub withSlot : ℕ → Slot → Device → Device
 withSlot slot new d =
-    record {
-      keys = paste (d .keys) (16 * slot) (new .key) 16;
-      counters = set (d .counters) slot (new .counter);
-      flags = set (d .flags) slot (new .flags);
-      empty = set (d .empty) slot (new .empty);
-      uid = d .uid;
-      seed = d .seed;
-      state = d .state;
-      rngkey = d .rngkey;
-      rng = d .rng;
-      plain = d .plain;
-      debugger = d .debugger;
-      made = d .made;
-    }
+    withSlots (paste (d .keys) (16 * slot) (new .key) 16) (set (d .counters) slot (new .counter)) (set (d .flags) slot (new .flags))
+    (set (d .empty) slot (new .empty)) d
 
 -- a number that is no slot changes nothing
 unfoldable pub putSlot : ℕ → Slot → Device → Device
 putSlot slot new d = cond (leb slot ramKey) (withSlot slot new d) d
 
-abbrev pub setPlain : ℕ → Device → Device
-setPlain mark d =
-    record {
-      keys = d .keys;
-      counters = d .counters;
-      flags = d .flags;
-      empty = d .empty;
-      uid = d .uid;
-      seed = d .seed;
-      state = d .state;
-      rngkey = d .rngkey;
-      rng = d .rng;
-      plain = mark;
-      debugger = d .debugger;
-      made = d .made;
-    }
-
-abbrev pub setDebugger : ℕ → Device → Device
-setDebugger mark d =
-    record {
-      keys = d .keys;
-      counters = d .counters;
-      flags = d .flags;
-      empty = d .empty;
-      uid = d .uid;
-      seed = d .seed;
-      state = d .state;
-      rngkey = d .rngkey;
-      rng = d .rng;
-      plain = d .plain;
-      debugger = mark;
-      made = d .made;
-    }
-
--- seed, state, key, and whether they are initialised
-abbrev pub setRandom : List ℕ → List ℕ → List ℕ → ℕ → Device → Device
-setRandom seed state key mark d =
-    record {
-      keys = d .keys;
-      counters = d .counters;
-      flags = d .flags;
-      empty = d .empty;
-      uid = d .uid;
-      seed = seed;
-      state = state;
-      rngkey = key;
-      rng = mark;
-      plain = d .plain;
-      debugger = d .debugger;
-      made = d .made;
-    }
+-- all that a device holds besides its slots
+abbrev pub besideSlots : Device → Device
+besideSlots d = withSlots [] [] [] [] d
 
 -- ---- what the record's type says of it, for theorems: how many numbers there are, and that keys are bytes
-pub record Shaped (d : Device) : Type 0 where
-  pub keys : length (d .keys) ≡ 240
-  pub key-bytes : Bytes (d .keys)
-  pub counters : length (d .counters) ≡ 15
-  pub flags : length (d .flags) ≡ 15
-  pub empty : length (d .empty) ≡ 15
-  pub uid : length (d .uid) ≡ 15
+pub record Shape (keys counters flags empty uid marks : List ℕ) : Type 0 where
+  pub all-keys : length keys ≡ 240
+  pub key-bytes : Bytes keys
+  pub all-counters : length counters ≡ 15
+  pub all-flags : length flags ≡ 15
+  pub all-empty : length empty ≡ 15
+  pub uid-long : length uid ≡ 15
+  pub all-marks : length marks ≡ markCount
+
+abbrev pub Shaped : Device → Type 0
+Shaped d = Shape (d .keys) (d .counters) (d .flags) (d .empty) (d .uid) (d .marks)

@@ -10,7 +10,7 @@ use Rattle.message.specs.Flags.{debugger, keyUsage}
 use Rattle.message.specs.Slots.{flagsKept}
 use Rattle.message.specs.declared.Role.{Role}
 use Rattle.message.specs.declared.Role.the-variants.{Cipher, GenerateMac, VerifyMac}
-use Rattle.device.specs.Record.{isOn, flagsAt}
+use Rattle.device.specs.Record.{rngMark, debuggerMark, isMarked, flagsAt}
 use Rattle.device.specs.declared.Device.{Device}
 
 -- whether a flag stands in a number of flags
@@ -23,7 +23,7 @@ kept slot flags = bitAnd flags (flagsKept slot)
 
 -- a slot with DEBUGGER set is locked while the debugger mark is on
 unfoldable pub locked : Device → ℕ → Bool
-locked d slot = isOn (d .debugger) && hasFlag (flagsAt d slot) debugger
+locked d slot = isMarked d debuggerMark && hasFlag (flagsAt d slot) debugger
 
 -- ECB and CBC: slots 4 to 13 with KEY_USAGE 0. GENERATE_MAC and VERIFY_MAC: slots 4 to 13 with KEY_USAGE 1. Other slots have
 -- no KEY_USAGE
@@ -40,4 +40,4 @@ abbrev pub bitWhere : Bool → ℕ → ℕ
 bitWhere on bit = cond on bit 0
 
 unfoldable pub status : Device → ℕ
-status d = bitWhere (isOn (d .rng)) 32 + bitWhere (isOn (d .debugger)) 64
+status d = bitWhere (isMarked d rngMark) 32 + bitWhere (isMarked d debuggerMark) 64

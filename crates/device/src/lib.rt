@@ -3,24 +3,10 @@
 // A record is plain data that anyone could have filled, so nothing in it is believed before `is_made`. Slot numbers are bytes
 // from 0 to 255 and stay so: to read what is no slot gives zeros, and to put something there changes nothing.
 ghost use mathlib.Core.Path.{_≡_};
-ghost use Rattle.aes.specs.State.{byte};
-ghost use Rattle.device.specs.Made.{blank, slotFine, slotsFine, made, fresh};
-ghost use Rattle.device.specs.Record.{uidFrom, blockAt, keyAt, counterAt, emptyAt, flagsAt, isEmpty, putSlot};
+ghost use Rattle.device.specs.Made.{slotFine, slotsFine, marksFine, made, unset, blank, fresh};
+ghost use Rattle.device.specs.Record.{isMarked, keyAt, counterAt, emptyAt, flagsAt, isEmpty, putSlot};
 ghost use Rattle.device.specs.Rules.{hasFlag, kept, locked, isMac, usageFits, bitWhere, status};
 use message::Role;
-
-// Numbers of the answers.
-pub const SEQUENCE_ERROR: u8 = 1;
-
-pub const KEY_NOT_AVAILABLE: u8 = 2;
-
-pub const KEY_EMPTY: u8 = 4;
-
-pub const KEY_WRITE_PROTECTED: u8 = 6;
-
-pub const KEY_UPDATE_ERROR: u8 = 7;
-
-pub const RNG_SEED: u8 = 8;
 
 // Slots that a rule names.
 pub const SECRET_KEY: u8 = 0;
@@ -33,6 +19,18 @@ pub const RAM_KEY: u8 = 14;
 pub const OFF: u8 = 0;
 
 pub const ON: u8 = 1;
+
+// The places of the marks: random numbers are initialised, slot 14 came in plain, a debugger is attached, the device is made.
+// The other places are for marks to come, and stay as making leaves them: off.
+pub const RNG_MARK: usize = 0;
+
+pub const PLAIN_MARK: usize = 1;
+
+pub const DEBUGGER_MARK: usize = 2;
+
+pub const MADE_MARK: usize = 3;
+
+const MARKS: usize = 7;
 
 // ---- the record
 
@@ -49,11 +47,8 @@ pub struct Device {
     pub seed: [u8; 16],
     pub state: [u8; 16],
     pub rngkey: [u8; 16],
-    // Marks: random numbers are initialised, slot 14 came in plain, a debugger is attached, the device is made.
-    pub rng: u8,
-    pub plain: u8,
-    pub debugger: u8,
-    pub made: u8,
+    // As many as fill the record up to a multiple of four, so that C sees no byte in it that nothing settles.
+    pub marks: [u8; 7],
 }
 
 // What one slot holds.
@@ -70,40 +65,12 @@ pub struct Reply {
     pub device: Device,
 }
 
-// ---- bytes
+// ---- marks
 
-// A byte of a text, and 0 past its end.
-pub fn byte_at(text: &[u8], i: usize) -> u8
-    ensures { λ r. ⌜ r ≡ byte (now (text .entry)) i ⌝ }
+pub fn is_marked(device: Device, place: usize) -> bool
+    ensures { λ r. ⌜ r ≡ isMarked device place ⌝ }
 {
-    if i < text.len() { text[i] } else { 0 }
-}
-
-// A block of a text by its number, filled up with zeros.
-pub fn block_at(text: &[u8], number: u8) -> [u8; 16]
-    ensures { λ r. ⌜ r ≡ blockAt (now (text .entry)) number ⌝ }
-{
-    let at = 16 * (number as usize);
-    let mut block = [0u8; 16];
-    let mut i: usize = 0;
-    while i < 16 {
-        block[i] = byte_at(text, at + i);
-        i += 1;
-    }
-    block
-}
-
-// The first 15 bytes of a text, filled up with zeros.
-pub fn uid_from(text: &[u8]) -> [u8; 15]
-    ensures { λ r. ⌜ r ≡ uidFrom (now (text .entry)) ⌝ }
-{
-    let mut uid = [0u8; 15];
-    let mut i: usize = 0;
-    while i < 15 {
-        uid[i] = byte_at(text, i);
-        i += 1;
-    }
-    uid
+    basics::byte_at(&device.marks, place) == ON
 }
 
 // ---- slots
@@ -111,7 +78,7 @@ pub fn uid_from(text: &[u8]) -> [u8; 15]
 pub fn key_at(device: Device, slot: u8) -> [u8; 16]
     ensures { λ r. ⌜ r ≡ keyAt device slot ⌝ }
 {
-    block_at(&device.keys, slot)
+    basics::block_at(&device.keys, slot)
 }
 
 pub fn counter_at(device: Device, slot: u8) -> u32
@@ -127,13 +94,13 @@ pub fn counter_at(device: Device, slot: u8) -> u32
 pub fn flags_at(device: Device, slot: u8) -> u8
     ensures { λ r. ⌜ r ≡ flagsAt device slot ⌝ }
 {
-    byte_at(&device.flags, slot as usize)
+    basics::byte_at(&device.flags, slot as usize)
 }
 
 fn empty_at(device: Device, slot: u8) -> u8
     ensures { λ r. ⌜ r ≡ emptyAt device slot ⌝ }
 {
-    byte_at(&device.empty, slot as usize)
+    basics::byte_at(&device.empty, slot as usize)
 }
 
 pub fn is_empty(device: Device, slot: u8) -> bool
@@ -184,7 +151,7 @@ pub fn is_locked(device: Device, slot: u8) -> bool
     ensures { λ r. ⌜ r ≡ locked device slot ⌝ }
 {
     let flags = flags_at(device, slot);
-    (device.debugger == ON) & has_flag(flags, message::DEBUGGER)
+    is_marked(device, DEBUGGER_MARK) & has_flag(flags, message::DEBUGGER)
 }
 
 fn is_mac(role: Role) -> bool
@@ -218,7 +185,7 @@ fn bit_where(on: bool, bit: u8) -> u8
 pub fn status_of(device: Device) -> u8
     ensures { λ r. ⌜ r ≡ status device ⌝ }
 {
-    bit_where(device.rng == ON, 32) + bit_where(device.debugger == ON, 64)
+    bit_where(is_marked(device, RNG_MARK), 32) + bit_where(is_marked(device, DEBUGGER_MARK), 64)
 }
 
 // ---- made
@@ -227,7 +194,7 @@ pub fn status_of(device: Device) -> u8
 fn slot_fine(number: u8, slot: Slot) -> bool
     ensures { λ r. ⌜ r ≡ slotFine number slot ⌝ }
 {
-    let blank = message::is_same(&slot.key, &[0u8; 16]) & (slot.counter == 0) & (slot.flags == 0);
+    let blank = basics::is_same(&slot.key, &[0u8; 16]) & (slot.counter == 0) & (slot.flags == 0);
     (slot.empty <= ON)
         & (slot.counter <= message::counter_kept(number, message::MAX_COUNTER))
         & (kept(number, slot.flags) == slot.flags)
@@ -242,7 +209,7 @@ fn slots_fine(device: Device) -> bool
     while slot <= RAM_KEY {
         let n = slot as usize;
         let now = Slot {
-            key: block_at(&device.keys, slot),
+            key: basics::block_at(&device.keys, slot),
             counter: device.counters[n],
             flags: device.flags[n],
             empty: device.empty[n],
@@ -253,62 +220,64 @@ fn slots_fine(device: Device) -> bool
     fine
 }
 
+fn marks_fine(device: Device) -> bool
+    ensures { λ r. ⌜ r ≡ marksFine device ⌝ }
+{
+    let mut fine = true;
+    let mut place: usize = 0;
+    while place < MARKS {
+        fine = fine & (device.marks[place] <= ON);
+        place += 1;
+    }
+    fine
+}
+
 // Whether a record is one that making and the commands can have left.
 pub fn is_made(device: Device) -> bool
     ensures { λ r. ⌜ r ≡ made device ⌝ }
 {
-    let named = !message::is_same(&device.uid, &[0u8; 15]);
-    let at_rest = message::is_same(&device.state, &[0u8; 16])
-        & message::is_same(&device.rngkey, &[0u8; 16]);
-    (device.made == ON)
+    let named = !basics::is_same(&device.uid, &[0u8; 15]);
+    let at_rest = basics::is_same(&device.state, &[0u8; 16])
+        & basics::is_same(&device.rngkey, &[0u8; 16]);
+    is_marked(device, MADE_MARK)
         & named
         & !is_empty(device, SECRET_KEY)
         & slots_fine(device)
-        & (!is_empty(device, RAM_KEY) | (device.plain == OFF))
-        & ((device.rng == ON) | at_rest)
-        & (device.rng <= ON)
-        & (device.plain <= ON)
-        & (device.debugger <= ON)
+        & (!is_empty(device, RAM_KEY) | !is_marked(device, PLAIN_MARK))
+        & (is_marked(device, RNG_MARK) | at_rest)
+        & marks_fine(device)
+}
+
+// Nothing but a UID, a seed and what every slot's empty mark is.
+fn unset(uid: [u8; 15], seed: [u8; 16], empty: u8) -> Device
+    ensures { λ r. ⌜ r ≡ unset uid seed empty ⌝ }
+{
+    Device {
+        keys: [0; 240],
+        counters: [0; 15],
+        flags: [0; 15],
+        empty: [empty; 15],
+        uid: uid,
+        seed: seed,
+        state: [0; 16],
+        rngkey: [0; 16],
+        marks: [OFF; 7],
+    }
 }
 
 // The blank device: all zero, and not made.
 pub fn blank() -> Device
     ensures { λ r. ⌜ r ≡ blank ⌝ }
 {
-    Device {
-        keys: [0; 240],
-        counters: [0; 15],
-        flags: [0; 15],
-        empty: [OFF; 15],
-        uid: [0; 15],
-        seed: [0; 16],
-        state: [0; 16],
-        rngkey: [0; 16],
-        rng: OFF,
-        plain: OFF,
-        debugger: OFF,
-        made: OFF,
-    }
+    unset([0; 15], [0; 16], OFF)
 }
 
 // A new device: SECRET_KEY is put into a key store of zeros, and all other slots are empty.
 pub fn fresh(uid: [u8; 15], secret: [u8; 16], seed: [u8; 16]) -> Device
     ensures { λ r. ⌜ r ≡ fresh uid secret seed ⌝ }
 {
-    let new = Device {
-        keys: [0; 240],
-        counters: [0; 15],
-        flags: [0; 15],
-        empty: [ON; 15],
-        uid: uid,
-        seed: seed,
-        state: [0; 16],
-        rngkey: [0; 16],
-        rng: OFF,
-        plain: OFF,
-        debugger: OFF,
-        made: ON,
-    };
+    let mut new = unset(uid, seed, ON);
+    new.marks[MADE_MARK] = ON;
     put_slot(
         new,
         SECRET_KEY,

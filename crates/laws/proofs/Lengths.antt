@@ -8,7 +8,7 @@ use borrow.Author.Tests.{eqb-true}
 use lib.Dec.{eqb}
 use lib.ListN.{getD}
 use Rattle.laws.proofs.Test.{both}
-use Rattle.laws.specs.Lengths.{rightFrom, right}
+use Rattle.laws.specs.Lengths.{rightFrom, rightLengths}
 
 -- row k: its number is what it must be; past the last row, 0 is 0
 abbrev pub Right : List (ℕ × ℕ) → ℕ → Type 0
@@ -23,6 +23,6 @@ each-from so [] h k = refl
 each-from so (row ∷ rows) h zero = eqb-true (row .0) (row .1) (both so (eqb (row .0) (row .1)) (so-far _ rows h) .1)
 each-from so (row ∷ rows) h (suc k) = each-from _ rows h k
 
-pub each-right : (rows : List (ℕ × ℕ)) → right rows ≡ true → (k : ℕ) → Right rows k
-unfolding right
+pub each-right : (rows : List (ℕ × ℕ)) → rightLengths rows ≡ true → (k : ℕ) → Right rows k
+unfolding rightLengths
 each-right rows h = each-from true rows h

@@ -10,5 +10,5 @@ abbrev pub rightFrom : Bool → List (ℕ × ℕ) → Bool
 rightFrom so [] = so
 rightFrom so (row ∷ rows) = rightFrom (so && eqb (row .0) (row .1)) rows
 
-unfoldable pub right : List (ℕ × ℕ) → Bool
-right rows = rightFrom true rows
+unfoldable pub rightLengths : List (ℕ × ℕ) → Bool
+rightLengths rows = rightFrom true rows

@@ -1,3 +1,3 @@
+pub mod Effects
 pub mod Exporting
 pub mod Loading
-pub mod Sound

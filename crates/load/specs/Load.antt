@@ -1,21 +1,20 @@
--- LOAD_KEY, over the number n of flags: the order of its checks, and what it leaves for any record and lent buffers of any lengths.
+-- LOAD_KEY, over the number n of flags: the order of its checks, and its account for lent buffers of any lengths.
 -- Assumes nothing.
 use mathlib.Core.Bool.{Bool, not, _&&_}
 use mathlib.Core.List.{List, [], _∷_, _++_}
 use Prim.Native.Nat.{ℕ}
 use lib.Dec.{eqb}
 use lib.ListN.{length}
-use Rattle.laws.specs.Lengths.{right}
-use Rattle.message.specs.Answer.{keyInvalid, firstFault}
+use Rattle.laws.specs.Lengths.{rightLengths}
+use Rattle.basics.specs.Answers.{keyInvalid, firstFault, keyEmpty, keyNotAvailable, keyWriteProtected, keyUpdateError}
 use Rattle.message.specs.Building.{uidOf, targetOf, authorityOf}
 use Rattle.message.specs.Flags.{write}
 use Rattle.message.specs.Messages.{m4, m5}
 use Rattle.message.specs.Opening.{opened}
 use Rattle.message.specs.Slots.{allowed, counterKept}
 use Rattle.message.specs.declared.Opened.{Opened}
-use Rattle.device.specs.Answers.{keyEmpty, keyNotAvailable, keyWriteProtected, keyUpdateError}
-use Rattle.device.specs.Checks.{checks}
-use Rattle.device.specs.Outcome.{Outcome, done, decided}
+use Rattle.device.specs.Account.{Account, unchanged}
+use Rattle.device.specs.Outcome.{Outcome, done}
 use Rattle.device.specs.Record.{isEmpty, flagsAt}
 use Rattle.device.specs.Rules.{hasFlag, locked}
 use Rattle.device.specs.declared.Device.{Device}
@@ -35,26 +34,20 @@ pairChecks d target authority =
     ∷ []
 
 -- then M3; identity; the filler bits; counter
-abbrev pub messageChecks : Device → ℕ → List ℕ → Opened → List (Bool × ℕ)
-messageChecks d target uid new =
+abbrev pub openedChecks : Device → ℕ → List ℕ → Opened → List (Bool × ℕ)
+openedChecks d target uid new =
     (not (new .genuine), keyUpdateError)
     ∷ (not (isForUs d target uid), keyUpdateError)
-    ∷ (not (new .zeros), keyUpdateError)
+    ∷ (not (new .zerofill), keyUpdateError)
     ∷ (not (counterRises d target (new .counter)), keyUpdateError)
     ∷ []
 
-unfoldable pub guardAnswer : Device → Bool → ℕ → ℕ → ℕ
-guardAnswer d lengths target authority = firstFault (checks d lengths (pairChecks d target authority))
+unfoldable pub openedAnswer : Device → ℕ → List ℕ → Opened → ℕ
+openedAnswer d target uid new = firstFault (openedChecks d target uid new)
 
-unfoldable pub messageAnswer : Device → ℕ → List ℕ → Opened → ℕ
-messageAnswer d target uid new = firstFault (messageChecks d target uid new)
-
--- all ten: not made; lengths of all five buffers; these four; these four
+-- after not made and the lengths of all five buffers: these four; these four
 abbrev pub loadChecks : Device → List ℕ → Opened → List (Bool × ℕ)
-loadChecks d m1 new = pairChecks d (targetOf m1) (authorityOf m1) ++ messageChecks d (targetOf m1) (uidOf m1) new
-
-unfoldable pub loadAnswer : Device → Bool → List ℕ → Opened → ℕ
-loadAnswer d lengths m1 new = firstFault (checks d lengths (loadChecks d m1 new))
+loadChecks d m1 new = pairChecks d (targetOf m1) (authorityOf m1) ++ openedChecks d (targetOf m1) (uidOf m1) new
 
 -- the message as it opens under the key of the authority that M1 names
 abbrev pub openedBy : ℕ → Device → List ℕ → List ℕ → List ℕ → Opened
@@ -65,14 +58,21 @@ abbrev pub proof4 : Device → ℕ → ℕ → ℕ → List ℕ → List ℕ
 proof4 d target authority counter key = m4 (d .uid) target authority (counterKept target counter) key
 
 -- what a device leaves that takes counter, flags and key by an authority: the target's record, M4 and M5
-abbrev pub taken : Device → ℕ → ℕ → ℕ → ℕ → List ℕ → Outcome
-taken d target authority counter flags key =
+abbrev pub keyLoaded : Device → ℕ → ℕ → ℕ → ℕ → List ℕ → Outcome
+keyLoaded d target authority counter flags key =
     let fourth = proof4 d target authority counter key in
     done (loaded d target counter flags key) 0 (fourth ∷ m5 key fourth ∷ [])
 
-unfoldable pub loadKey : ℕ → Device → List ℕ → List ℕ → List ℕ → List ℕ → List ℕ → Outcome
-loadKey n d m1 m2 m3 before4 before5 =
-    let lengths = right (fiveLengths (length m1) (length m2) (length m3) (length before4) (length before5)) in
-    let new = openedBy n d m1 m2 m3 in
-    decided (loadAnswer d lengths m1 new) d (before4 ∷ before5 ∷ [])
-    (taken d (targetOf m1) (authorityOf m1) (new .counter) (new .flags) (new .key))
+unfoldable pub loadKey : ℕ → List ℕ → List ℕ → List ℕ → List ℕ → List ℕ → Account
+loadKey n m1 m2 m3 before4 before5 = record {
+  lent = before4 ∷ before5 ∷ [];
+  brought = m1 ∷ m2 ∷ m3 ∷ [];
+  lengths = rightLengths (fiveLengths (length m1) (length m2) (length m3) (length before4) (length before5));
+  names = targetOf m1 ∷ authorityOf m1 ∷ [];
+  loads = targetOf m1 ∷ [];
+  checks = λ d. loadChecks d m1 (openedBy n d m1 m2 m3);
+  refusal = unchanged;
+  does = λ d. let new = openedBy n d m1 m2 m3 in
+      let out = keyLoaded d (targetOf m1) (authorityOf m1) (new .counter) (new .flags) (new .key) in
+      (out .device, out .value, out .buffers);
+}

@@ -9,7 +9,7 @@ use Rattle.laws.specs.Same.{same}
 use Rattle.message.specs.Flags.{wildcard}
 use Rattle.message.specs.Slots.{counterKept}
 use Rattle.device.specs.Made.{zeroUid}
-use Rattle.device.specs.Record.{ramKey, off, isEmpty, keyAt, counterAt, flagsAt, putSlot, setPlain}
+use Rattle.device.specs.Record.{ramKey, off, plainMark, markAt, isEmpty, keyAt, counterAt, flagsAt, setMark, putSlot}
 use Rattle.device.specs.Rules.{hasFlag, kept}
 use Rattle.device.specs.declared.Device.{Device}
 use Rattle.device.specs.declared.Slot.{Slot}
@@ -37,4 +37,5 @@ asKept slot counter flags key = record { key = key; counter = counterKept slot c
 
 -- the target holds them so
 unfoldable pub loaded : Device → ℕ → ℕ → ℕ → List ℕ → Device
-loaded d target counter flags key = putSlot target (asKept target counter flags key) (setPlain (plainAfter target (d .plain)) d)
+loaded d target counter flags key =
+    putSlot target (asKept target counter flags key) (setMark plainMark (plainAfter target (markAt d plainMark)) d)

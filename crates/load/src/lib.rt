@@ -7,34 +7,36 @@ ghost use mathlib.Core.Bool.{true};
 ghost use mathlib.Core.List.{_∷_, []};
 ghost use Prim.Native.Nat.{_≤_};
 ghost use lib.ListN.{length};
-ghost use Rattle.laws.specs.Lengths.{right};
+ghost use Rattle.laws.specs.Lengths.{rightLengths};
 ghost use Rattle.message.specs.FirstBlock.{maxCounter};
 ghost use Rattle.message.specs.Flags.{flagCount};
 ghost use Rattle.message.specs.Messages.{m4, m5};
 ghost use Rattle.message.specs.Slots.{allowed, counterKept};
+ghost use Rattle.device.specs.Account.{perform, answerBy};
 ghost use Rattle.device.specs.Outcome.{outcome};
-ghost use Rattle.load.specs.Export.{exportAnswer, exportRamKey};
-ghost use Rattle.load.specs.Load.{fiveLengths, guardAnswer, messageAnswer, loadKey};
+ghost use Rattle.load.specs.Export.{exportChecks, exportRamKey};
+ghost use Rattle.load.specs.Load.{fiveLengths, pairChecks, openedAnswer, loadKey};
 ghost use Rattle.load.specs.Rules.{authorityKey, isForUs, counterRises, plainAfter, loaded};
+use basics::GENERAL_ERROR;
+use basics::NO_ERROR;
 use device::Device;
 use device::OFF;
+use device::PLAIN_MARK;
 use device::RAM_KEY;
 use device::Reply;
 use device::SECRET_KEY;
 use device::Slot;
 use message::Opened;
-use modes::GENERAL_ERROR;
-use modes::NO_ERROR;
 
 // M1 to M5.
 fn five_lengths(first: usize, second: usize, third: usize, fourth: usize, fifth: usize) -> bool
-    ensures { λ r. ⌜ r ≡ right (fiveLengths first second third fourth fifth) ⌝ }
+    ensures { λ r. ⌜ r ≡ rightLengths (fiveLengths first second third fourth fifth) ⌝ }
 {
     (first == 16) & (second == 32) & (third == 16) & (fourth == 32) & (fifth == 16)
 }
 
 // M4 and M5 of a device with this UID.
-fn write_proof(
+fn leave_proof(
     uid: [u8; 15],
     target: u8,
     authority: u8,
@@ -47,7 +49,7 @@ fn write_proof(
     ensures { λ _. ⌜ now (fourth .exit) ≡ m4 uid target authority (counterKept target counter) key ⌝ }
     ensures { λ _. ⌜ now (fifth .exit) ≡ m5 key (m4 uid target authority (counterKept target counter) key) ⌝ }
 {
-    message::write_answer(&uid, target, authority, counter, &key, fourth, fifth);
+    message::write_proof(&uid, target, authority, counter, &key, fourth, fifth);
 }
 
 // ---- the rules of a load
@@ -69,8 +71,8 @@ fn is_for_us(device: Device, target: u8, uid: [u8; 15]) -> bool
 {
     let own = device.uid;
     let forbidden = device::has_flag(device::flags_at(device, target), message::WILDCARD);
-    message::is_same(&uid, &own)
-        | message::is_same(&uid, &[0u8; 15]) & ((target == RAM_KEY) | !forbidden)
+    basics::is_same(&uid, &own)
+        | basics::is_same(&uid, &[0u8; 15]) & ((target == RAM_KEY) | !forbidden)
 }
 
 // Slot 14 keeps no counter, and takes any.
@@ -92,7 +94,7 @@ fn loaded(device: Device, target: u8, new: Opened) -> Device
     ensures { λ r. ⌜ r ≡ loaded device target (new .counter) (new .flags) (new .key) ⌝ }
 {
     let mut marked = device;
-    marked.plain = plain_after(target, device.plain);
+    marked.marks[PLAIN_MARK] = plain_after(target, device.marks[PLAIN_MARK]);
     let key = new.key;
     let slot = Slot {
         key: key,
@@ -107,7 +109,7 @@ fn loaded(device: Device, target: u8, new: Opened) -> Device
 
 // The checks before the message is opened.
 fn guard_answer(device: Device, lengths: bool, target: u8, authority: u8) -> u8
-    ensures { λ r. ⌜ r ≡ guardAnswer device lengths target authority ⌝ }
+    ensures { λ r. ⌜ r ≡ answerBy device lengths (pairChecks device target authority) ⌝ }
 {
     if !device::is_made(device) {
         return GENERAL_ERROR;
@@ -116,35 +118,35 @@ fn guard_answer(device: Device, lengths: bool, target: u8, authority: u8) -> u8
         return GENERAL_ERROR;
     }
     if !message::is_allowed(target, authority) {
-        return message::KEY_INVALID;
+        return basics::KEY_INVALID;
     }
     if device::has_flag(device::flags_at(device, target), message::WRITE) {
-        return device::KEY_WRITE_PROTECTED;
+        return basics::KEY_WRITE_PROTECTED;
     }
     if device::is_empty(device, authority) & (authority != target) {
-        return device::KEY_EMPTY;
+        return basics::KEY_EMPTY;
     }
     if device::is_locked(device, authority) {
-        return device::KEY_NOT_AVAILABLE;
+        return basics::KEY_NOT_AVAILABLE;
     }
     NO_ERROR
 }
 
 // The checks of what was opened.
-fn message_answer(device: Device, target: u8, uid: [u8; 15], new: Opened) -> u8
-    ensures { λ r. ⌜ r ≡ messageAnswer device target uid new ⌝ }
+fn opened_answer(device: Device, target: u8, uid: [u8; 15], new: Opened) -> u8
+    ensures { λ r. ⌜ r ≡ openedAnswer device target uid new ⌝ }
 {
     if !new.genuine {
-        return device::KEY_UPDATE_ERROR;
+        return basics::KEY_UPDATE_ERROR;
     }
     if !is_for_us(device, target, uid) {
-        return device::KEY_UPDATE_ERROR;
+        return basics::KEY_UPDATE_ERROR;
     }
-    if !new.zeros {
-        return device::KEY_UPDATE_ERROR;
+    if !new.zerofill {
+        return basics::KEY_UPDATE_ERROR;
     }
     if !counter_rises(device, target, new.counter) {
-        return device::KEY_UPDATE_ERROR;
+        return basics::KEY_UPDATE_ERROR;
     }
     NO_ERROR
 }
@@ -158,10 +160,10 @@ pub fn load_key(
     m4: &mut [u8],
     m5: &mut [u8],
 ) -> Reply
-    ensures { λ r. ⌜ outcome (r .answer) (r .device) 0 (now (m4 .exit) ∷ now (m5 .exit) ∷ []) ≡ loadKey flagCount device (now (m1 .entry)) (now (m2 .entry)) (now (m3 .entry)) (now (m4 .entry)) (now (m5 .entry)) ⌝ }
+    ensures { λ r. ⌜ outcome (r .answer) (r .device) 0 (now (m4 .exit) ∷ now (m5 .exit) ∷ []) ≡ perform (loadKey flagCount (now (m1 .entry)) (now (m2 .entry)) (now (m3 .entry)) (now (m4 .entry)) (now (m5 .entry))) device ⌝ }
 {
     let lengths = five_lengths(m1.len(), m2.len(), m3.len(), m4.len(), m5.len());
-    let slots = device::byte_at(m1, 15);
+    let slots = basics::byte_at(m1, 15);
     let target = message::target_of(slots);
     let authority = message::authority_of(slots);
     let guard = guard_answer(device, lengths, target, authority);
@@ -172,8 +174,8 @@ pub fn load_key(
         };
     }
     let new = message::open(&authority_key(device, authority), m1, m2, m3);
-    let uid = device::uid_from(m1);
-    let answer = message_answer(device, target, uid, new);
+    let uid = basics::uid_from(m1);
+    let answer = opened_answer(device, target, uid, new);
     if answer != NO_ERROR {
         return Reply {
             answer: answer,
@@ -183,7 +185,7 @@ pub fn load_key(
     // The proof names the device itself, also where the message had the wildcard.
     let own = device.uid;
     let key = new.key;
-    write_proof(own, target, authority, new.counter, key, m4, m5);
+    leave_proof(own, target, authority, new.counter, key, m4, m5);
     Reply {
         answer: NO_ERROR,
         device: loaded(device, target, new),
@@ -193,7 +195,7 @@ pub fn load_key(
 // ---- EXPORT_RAM_KEY
 
 fn export_answer(device: Device, lengths: bool) -> u8
-    ensures { λ r. ⌜ r ≡ exportAnswer device lengths ⌝ }
+    ensures { λ r. ⌜ r ≡ answerBy device lengths (exportChecks device) ⌝ }
 {
     if !device::is_made(device) {
         return GENERAL_ERROR;
@@ -202,10 +204,10 @@ fn export_answer(device: Device, lengths: bool) -> u8
         return GENERAL_ERROR;
     }
     if device::is_empty(device, RAM_KEY) {
-        return device::KEY_EMPTY;
+        return basics::KEY_EMPTY;
     }
-    if device.plain != device::ON {
-        return message::KEY_INVALID;
+    if !device::is_marked(device, PLAIN_MARK) {
+        return basics::KEY_INVALID;
     }
     NO_ERROR
 }
@@ -219,7 +221,7 @@ pub fn export_ram_key(
     m4: &mut [u8],
     m5: &mut [u8],
 ) -> Reply
-    ensures { λ r. ⌜ outcome (r .answer) (r .device) 0 (now (m1 .exit) ∷ now (m2 .exit) ∷ now (m3 .exit) ∷ now (m4 .exit) ∷ now (m5 .exit) ∷ []) ≡ exportRamKey flagCount device (now (m1 .entry)) (now (m2 .entry)) (now (m3 .entry)) (now (m4 .entry)) (now (m5 .entry)) ⌝ }
+    ensures { λ r. ⌜ outcome (r .answer) (r .device) 0 (now (m1 .exit) ∷ now (m2 .exit) ∷ now (m3 .exit) ∷ now (m4 .exit) ∷ now (m5 .exit) ∷ []) ≡ perform (exportRamKey flagCount (now (m1 .entry)) (now (m2 .entry)) (now (m3 .entry)) (now (m4 .entry)) (now (m5 .entry))) device ⌝ }
 {
     let lengths = five_lengths(m1.len(), m2.len(), m3.len(), m4.len(), m5.len());
     let answer = export_answer(device, lengths);
@@ -233,7 +235,7 @@ pub fn export_ram_key(
     let secret = device::key_at(device, SECRET_KEY);
     let key = device::key_at(device, RAM_KEY);
     message::write_key(&own, RAM_KEY, SECRET_KEY, &secret, 0, 0, &key, m1, m2, m3);
-    write_proof(own, RAM_KEY, SECRET_KEY, 0, key, m4, m5);
+    leave_proof(own, RAM_KEY, SECRET_KEY, 0, key, m4, m5);
     Reply {
         answer: NO_ERROR,
         device: device,

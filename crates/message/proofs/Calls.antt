@@ -6,7 +6,7 @@ use mathlib.Core.List.{List}
 use Prim.Native.Nat.{ℕ}
 use lib.ListN.{length}
 use Rattle.aes.specs.Cipher.{cipher, invCipher}
-use Rattle.laws.specs.Lengths.{right}
+use Rattle.laws.specs.Lengths.{rightLengths}
 use Rattle.modes.specs.Answer.{threeBlocks, cbcLengths, cmacLengths}
 use Rattle.modes.specs.Cbc.{cbcEncrypt, cbcDecrypt}
 use Rattle.modes.specs.Cmac.{cmac}
@@ -16,7 +16,7 @@ use Rattle.modes.proofs.Lent.{succeeded}
 
 module _ (key before after : List ℕ) (hk : length key ≡ 16) where
   pub derives : (constant : List ℕ) → length constant ≡ 16 → length before ≡ 16 → after ≡ derivation key constant before .output → after ≡ kdf key constant
-  unfolding threeBlocks right
+  unfolding threeBlocks rightLengths
   derives constant hc hb e = e ∙ succeeded _ _ before (rw (hk, hc, hb))
 
   -- two blocks

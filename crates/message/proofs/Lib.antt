@@ -1,7 +1,6 @@
 pub mod Building
 pub mod Calls
 pub mod Cases
-pub mod Faults
 pub mod FirstBlock
 pub mod FiveFlags
 pub mod Opening

@@ -1,4 +1,3 @@
-pub mod Answer
 pub mod Building
 pub mod Cases
 pub mod FirstBlock

@@ -36,11 +36,11 @@ m1 uid target authority = uid ++ (slotByte target authority ∷ [])
 
 -- ENC_CBC under K1, IV = 0, of C_ID' | F_ID' | 0..0 | KEY_ID'
 unfoldable pub m2 : ℕ → List ℕ → ℕ → ℕ → List ℕ → List ℕ
-m2 n secret counter flags key = cbcEncrypt (cipher (encKey secret)) zeroBlock (firstBlock n counter flags ++ key)
+m2 n authKey counter flags key = cbcEncrypt (cipher (encKey authKey)) zeroBlock (firstBlock n counter flags ++ key)
 
 -- CMAC under K2 of M1 | M2, 384 bits
 unfoldable pub m3 : List ℕ → List ℕ → List ℕ → List ℕ
-m3 secret m1 m2 = cmac (cipher (macKey secret)) 384 (m1 ++ m2)
+m3 authKey m1 m2 = cmac (cipher (macKey authKey)) 384 (m1 ++ m2)
 
 -- the three together, from UID', target, authority, the authority's key, counter, flags and the new key
 pub record Sent : Type 0 where
@@ -52,10 +52,10 @@ abbrev pub sent : List ℕ → List ℕ → List ℕ → Sent
 sent m1 m2 m3 = record { m1 = m1; m2 = m2; m3 = m3 }
 
 abbrev pub build : ℕ → List ℕ → ℕ → ℕ → List ℕ → ℕ → ℕ → List ℕ → Sent
-build n uid target authority secret counter flags key =
+build n uid target authority authKey counter flags key =
     let first = m1 uid target authority in
-    let second = m2 n secret counter flags key in
-    sent first second (m3 secret first second)
+    let second = m2 n authKey counter flags key in
+    sent first second (m3 authKey first second)
 
 -- ---- the device's proof
 -- UID | ID | AuthID | ENC_ECB under K3 of C_ID | 1 | 0..0

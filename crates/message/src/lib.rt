@@ -2,15 +2,14 @@
 // device's.
 //
 // A slot number is a byte from 0 to 255, and nothing here cuts bits from it: 15 to 255 are no slot. Whoever asks for one is
-// refused, and a refusal writes nothing. `secret` is the authority's key throughout, and `key` the new one.
+// refused, and a refusal writes nothing. `authkey` is the authority's key throughout, and `key` the new one.
 ghost use mathlib.Core.Path.{_≡_};
 ghost use mathlib.Core.List.{_++_, _∷_, []};
 ghost use Prim.Native.Nat.{_+_, _≤_, _<_};
 ghost use lib.Dec.{eqb};
 ghost use lib.ListN.{length, take, drop};
 ghost use lib.Seq.{paste};
-ghost use Rattle.laws.specs.Lengths.{right};
-ghost use Rattle.laws.specs.Same.{same};
+ghost use Rattle.laws.specs.Lengths.{rightLengths};
 ghost use Rattle.aes.specs.Cipher.{cipher};
 ghost use Rattle.modes.specs.Compression.{kdf};
 ghost use Rattle.modes.specs.Constants.{constantOf};
@@ -19,13 +18,10 @@ ghost use Rattle.message.specs.FirstBlock.{firstBlock, counterOf, flagsO
 ghost use Rattle.message.specs.Messages.{encKey, slotByte, targetIn, authorityIn, m2, m3, m5};
 ghost use Rattle.message.specs.Opening.{openLengths, opened, openedText, unopened};
 ghost use Rattle.message.specs.Slots.{kindOf, onlyVerifies, hasRole, flagsKept, counterKept, allowed};
-ghost use Rattle.message.specs.Writer.{messageLengths, messageAnswer, messages, fullForm, shortForm, fleetSheet, proofLengths, proof, answerForm};
+ghost use Rattle.message.specs.Writer.{messageLengths, writerAnswer, messages, fullForm, shortForm, fleetSheet, proofLengths, proof, proofForm};
+use basics::GENERAL_ERROR;
+use basics::NO_ERROR;
 use modes::Constant;
-use modes::GENERAL_ERROR;
-use modes::NO_ERROR;
-
-// The answer to what is no slot, or no pair of them.
-pub const KEY_INVALID: u8 = 3;
 
 // The largest counter, of 28 bits.
 pub const MAX_COUNTER: u32 = 0xfffffff;
@@ -150,22 +146,6 @@ fn put(text: &mut [u8], at: usize, part: &[u8])
     }
 }
 
-// Whether two texts are the same. All bytes are looked at, wherever they differ, so that the time tells nothing of where.
-pub fn is_same(a: &[u8], b: &[u8]) -> bool
-    ensures { λ r. ⌜ r ≡ same (now (a .entry)) (now (b .entry)) ⌝ }
-{
-    if a.len() != b.len() {
-        return false;
-    }
-    let mut agree = true;
-    let mut i: usize = 0;
-    while i < a.len() {
-        agree = agree & (a[i] == b[i]);
-        i += 1;
-    }
-    agree
-}
-
 // ---- the first block of M2
 
 // Counter and flags in 33 bits from the left: the last four bits of the counter share byte 3 with four flags, and the fifth flag
@@ -203,7 +183,7 @@ fn flags_of(block: [u8; 16]) -> u8
 fn filler_is_zero(block: [u8; 16]) -> bool
     ensures { λ r. ⌜ r ≡ eqb (fillerOf flagCount block) 0 ⌝ }
 {
-    let rest = is_same(&block[5..], &[0u8; 11]);
+    let rest = basics::is_same(&block[5..], &[0u8; 11]);
     (block[4] & 127 == 0) & rest
 }
 
@@ -249,22 +229,22 @@ fn write_head(uid: &[u8], slots: u8, text: &mut [u8])
     put(text, 15, &[slots]);
 }
 
-fn write_m2(secret: &[u8], counter: u32, flags: u8, key: &[u8], text: &mut [u8])
-    requires { ⌜ (length (now secret) ≡ 16) × (counter ≤ maxCounter) × (flags < 32) × (length (now key) ≡ 16) × (length (now text) ≡ 32) ⌝ }
-    ensures { λ _. ⌜ now (text .exit) ≡ m2 flagCount (now (secret .entry)) counter flags (now (key .entry)) ⌝ }
+fn write_m2(authkey: &[u8], counter: u32, flags: u8, key: &[u8], text: &mut [u8])
+    requires { ⌜ (length (now authkey) ≡ 16) × (counter ≤ maxCounter) × (flags < 32) × (length (now key) ≡ 16) × (length (now text) ≡ 32) ⌝ }
+    ensures { λ _. ⌜ now (text .exit) ≡ m2 flagCount (now (authkey .entry)) counter flags (now (key .entry)) ⌝ }
 {
-    let k1 = derived(secret, Constant::KeyUpdateEnc);
+    let k1 = derived(authkey, Constant::KeyUpdateEnc);
     let mut clear = [0u8; 32];
     put(&mut clear, 0, &first_block(counter, flags));
     put(&mut clear, 16, key);
     modes::cbc_encrypt(&k1, &[0u8; 16], &clear, text);
 }
 
-fn write_m3(secret: &[u8], first: &[u8], second: &[u8], text: &mut [u8])
-    requires { ⌜ (length (now secret) ≡ 16) × (length (now first) ≡ 16) × (length (now second) ≡ 32) × (length (now text) ≡ 16) ⌝ }
-    ensures { λ _. ⌜ now (text .exit) ≡ m3 (now (secret .entry)) (now (first .entry)) (now (second .entry)) ⌝ }
+fn write_m3(authkey: &[u8], first: &[u8], second: &[u8], text: &mut [u8])
+    requires { ⌜ (length (now authkey) ≡ 16) × (length (now first) ≡ 16) × (length (now second) ≡ 32) × (length (now text) ≡ 16) ⌝ }
+    ensures { λ _. ⌜ now (text .exit) ≡ m3 (now (authkey .entry)) (now (first .entry)) (now (second .entry)) ⌝ }
 {
-    let k2 = derived(secret, Constant::KeyUpdateMac);
+    let k2 = derived(authkey, Constant::KeyUpdateMac);
     let mut message = [0u8; 48];
     put(&mut message, 0, first);
     put(&mut message, 16, second);
@@ -294,19 +274,19 @@ fn write_m5(key: &[u8], fourth: &[u8], text: &mut [u8])
 
 fn message_lengths(
     uid: usize,
-    secret: usize,
+    authkey: usize,
     key: usize,
     first: usize,
     second: usize,
     third: usize,
 ) -> bool
-    ensures { λ r. ⌜ r ≡ right (messageLengths uid secret key first second third) ⌝ }
+    ensures { λ r. ⌜ r ≡ rightLengths (messageLengths uid authkey key first second third) ⌝ }
 {
-    (uid == 15) & (secret == 16) & (key == 16) & (first == 16) & (second == 32) & (third == 16)
+    (uid == 15) & (authkey == 16) & (key == 16) & (first == 16) & (second == 32) & (third == 16)
 }
 
-fn message_answer(lengths: bool, counter: u32, flags: u8, target: u8, authority: u8) -> u8
-    ensures { λ r. ⌜ r ≡ messageAnswer lengths counter flags target authority ⌝ }
+fn writer_answer(lengths: bool, counter: u32, flags: u8, target: u8, authority: u8) -> u8
+    ensures { λ r. ⌜ r ≡ writerAnswer lengths counter flags target authority ⌝ }
 {
     if !lengths {
         return GENERAL_ERROR;
@@ -318,7 +298,7 @@ fn message_answer(lengths: bool, counter: u32, flags: u8, target: u8, authority:
         return GENERAL_ERROR;
     }
     if !is_allowed(target, authority) {
-        return KEY_INVALID;
+        return basics::KEY_INVALID;
     }
     NO_ERROR
 }
@@ -328,7 +308,7 @@ pub fn write_key(
     uid: &[u8],
     target: u8,
     authority: u8,
-    secret: &[u8],
+    authkey: &[u8],
     counter: u32,
     flags: u8,
     key: &[u8],
@@ -336,23 +316,23 @@ pub fn write_key(
     m2: &mut [u8],
     m3: &mut [u8],
 ) -> u8
-    ensures { λ r. ⌜ messages r (now (m1 .exit)) (now (m2 .exit)) (now (m3 .exit)) ≡ fullForm (now (uid .entry)) target authority (now (secret .entry)) counter flags (now (key .entry)) (now (m1 .entry)) (now (m2 .entry)) (now (m3 .entry)) ⌝ }
+    ensures { λ r. ⌜ messages r (now (m1 .exit)) (now (m2 .exit)) (now (m3 .exit)) ≡ fullForm (now (uid .entry)) target authority (now (authkey .entry)) counter flags (now (key .entry)) (now (m1 .entry)) (now (m2 .entry)) (now (m3 .entry)) ⌝ }
 {
     let lengths = message_lengths(
         uid.len(),
-        secret.len(),
+        authkey.len(),
         key.len(),
         m1.len(),
         m2.len(),
         m3.len(),
     );
-    let answer = message_answer(lengths, counter, flags, target, authority);
+    let answer = writer_answer(lengths, counter, flags, target, authority);
     if answer != NO_ERROR {
         return answer;
     }
     write_head(uid, slot_byte(target, authority), m1);
-    write_m2(secret, counter, flags, key, m2);
-    write_m3(secret, m1, m2, m3);
+    write_m2(authkey, counter, flags, key, m2);
+    write_m3(authkey, m1, m2, m3);
     NO_ERROR
 }
 
@@ -361,20 +341,20 @@ pub fn write_key_short(
     uid: &[u8],
     target: u8,
     authority: u8,
-    secret: &[u8],
+    authkey: &[u8],
     counter: u32,
     key: &[u8],
     m1: &mut [u8],
     m2: &mut [u8],
     m3: &mut [u8],
 ) -> u8
-    ensures { λ r. ⌜ messages r (now (m1 .exit)) (now (m2 .exit)) (now (m3 .exit)) ≡ shortForm (now (uid .entry)) target authority (now (secret .entry)) counter (now (key .entry)) (now (m1 .entry)) (now (m2 .entry)) (now (m3 .entry)) ⌝ }
+    ensures { λ r. ⌜ messages r (now (m1 .exit)) (now (m2 .exit)) (now (m3 .exit)) ≡ shortForm (now (uid .entry)) target authority (now (authkey .entry)) counter (now (key .entry)) (now (m1 .entry)) (now (m2 .entry)) (now (m3 .entry)) ⌝ }
 {
     write_key(
         uid,
         target,
         authority,
-        secret,
+        authkey,
         counter,
         SHORT_FLAGS,
         key,
@@ -388,20 +368,20 @@ pub fn write_key_short(
 pub fn fleet_sheet(
     target: u8,
     authority: u8,
-    secret: &[u8],
+    authkey: &[u8],
     counter: u32,
     key: &[u8],
     m1: &mut [u8],
     m2: &mut [u8],
     m3: &mut [u8],
 ) -> u8
-    ensures { λ r. ⌜ messages r (now (m1 .exit)) (now (m2 .exit)) (now (m3 .exit)) ≡ fleetSheet target authority (now (secret .entry)) counter (now (key .entry)) (now (m1 .entry)) (now (m2 .entry)) (now (m3 .entry)) ⌝ }
+    ensures { λ r. ⌜ messages r (now (m1 .exit)) (now (m2 .exit)) (now (m3 .exit)) ≡ fleetSheet target authority (now (authkey .entry)) counter (now (key .entry)) (now (m1 .entry)) (now (m2 .entry)) (now (m3 .entry)) ⌝ }
 {
     write_key_short(
         &[0u8; 15],
         target,
         authority,
-        secret,
+        authkey,
         counter,
         key,
         m1,
@@ -411,14 +391,14 @@ pub fn fleet_sheet(
 }
 
 fn proof_lengths(uid: usize, key: usize, fourth: usize, fifth: usize) -> bool
-    ensures { λ r. ⌜ r ≡ right (proofLengths uid key fourth fifth) ⌝ }
+    ensures { λ r. ⌜ r ≡ rightLengths (proofLengths uid key fourth fifth) ⌝ }
 {
     (uid == 15) & (key == 16) & (fourth == 32) & (fifth == 16)
 }
 
 // The M4 and M5 with which a device of this UID proves that it has taken a message with this counter: it names the counter as the
 // target keeps it.
-pub fn write_answer(
+pub fn write_proof(
     uid: &[u8],
     target: u8,
     authority: u8,
@@ -427,10 +407,10 @@ pub fn write_answer(
     m4: &mut [u8],
     m5: &mut [u8],
 ) -> u8
-    ensures { λ r. ⌜ proof r (now (m4 .exit)) (now (m5 .exit)) ≡ answerForm (now (uid .entry)) target authority counter (now (key .entry)) (now (m4 .entry)) (now (m5 .entry)) ⌝ }
+    ensures { λ r. ⌜ proof r (now (m4 .exit)) (now (m5 .exit)) ≡ proofForm (now (uid .entry)) target authority counter (now (key .entry)) (now (m4 .entry)) (now (m5 .entry)) ⌝ }
 {
     let lengths = proof_lengths(uid.len(), key.len(), m4.len(), m5.len());
-    let answer = message_answer(lengths, counter, 0, target, authority);
+    let answer = writer_answer(lengths, counter, 0, target, authority);
     if answer != NO_ERROR {
         return answer;
     }
@@ -448,7 +428,7 @@ pub struct Opened {
     pub genuine: bool,
     pub counter: u32,
     pub flags: u8,
-    pub zeros: bool,
+    pub zerofill: bool,
     pub key: [u8; 16],
 }
 
@@ -460,15 +440,15 @@ fn not_opened() -> Opened
         genuine: false,
         counter: 0,
         flags: 0,
-        zeros: false,
+        zerofill: false,
         key: [0u8; 16],
     }
 }
 
-fn open_lengths(secret: usize, first: usize, second: usize, third: usize) -> bool
-    ensures { λ r. ⌜ r ≡ right (openLengths secret first second third) ⌝ }
+fn open_lengths(authkey: usize, first: usize, second: usize, third: usize) -> bool
+    ensures { λ r. ⌜ r ≡ rightLengths (openLengths authkey first second third) ⌝ }
 {
-    (secret == 16) & (first == 16) & (second == 32) & (third == 16)
+    (authkey == 16) & (first == 16) & (second == 32) & (third == 16)
 }
 
 // Half of a text of two blocks.
@@ -491,25 +471,25 @@ fn read_clear(clear: [u8; 32]) -> Opened
         genuine: true,
         counter: counter_of(first),
         flags: flags_of(first),
-        zeros: filler_is_zero(first),
+        zerofill: filler_is_zero(first),
         key: half(clear, 16),
     }
 }
 
 // Opens M1 to M3 under the authority's key. M2 is deciphered only where M3 is right.
-pub fn open(secret: &[u8], m1: &[u8], m2: &[u8], m3: &[u8]) -> Opened
-    ensures { λ r. ⌜ r ≡ opened flagCount (now (secret .entry)) (now (m1 .entry)) (now (m2 .entry)) (now (m3 .entry)) ⌝ }
+pub fn open(authkey: &[u8], m1: &[u8], m2: &[u8], m3: &[u8]) -> Opened
+    ensures { λ r. ⌜ r ≡ opened flagCount (now (authkey .entry)) (now (m1 .entry)) (now (m2 .entry)) (now (m3 .entry)) ⌝ }
     ensures { λ r. ⌜ r .counter ≤ maxCounter ⌝ }
 {
-    if !open_lengths(secret.len(), m1.len(), m2.len(), m3.len()) {
+    if !open_lengths(authkey.len(), m1.len(), m2.len(), m3.len()) {
         return not_opened();
     }
     let mut expected = [0u8; 16];
-    write_m3(secret, m1, m2, &mut expected);
-    if !is_same(m3, &expected) {
+    write_m3(authkey, m1, m2, &mut expected);
+    if !basics::is_same(m3, &expected) {
         return not_opened();
     }
-    let k1 = derived(secret, Constant::KeyUpdateEnc);
+    let k1 = derived(authkey, Constant::KeyUpdateEnc);
     let mut clear = [0u8; 32];
     modes::cbc_decrypt(&k1, &[0u8; 16], m2, &mut clear);
     read_clear(clear)

@@ -13,7 +13,8 @@ use lib.Seq.{take-all, paste}
 use Rattle.laws.proofs.Lengths.{each-right}
 use Rattle.laws.proofs.Paste.{pasted-over}
 use Rattle.laws.proofs.Test.{both}
-use Rattle.modes.specs.Answer.{noError, generalError, outcome, threeBlocks, cbcLengths, cmacLengths, compressLengths}
+use Rattle.basics.specs.Answers.{noError, generalError}
+use Rattle.modes.specs.Answer.{outcome, threeBlocks, cbcLengths, cmacLengths, compressLengths}
 use Rattle.modes.specs.Cmac.{blockCount}
 
 -- ---- the tests

@@ -4,18 +4,13 @@ use mathlib.Core.Bool.{Bool, _&&_, cond}
 use mathlib.Core.List.{List, [], _∷_}
 use Prim.Native.Nat.{ℕ, _*_, _%_}
 use lib.Dec.{eqb, leb}
-use Rattle.laws.specs.Lengths.{right}
+use Rattle.laws.specs.Lengths.{rightLengths}
+use Rattle.basics.specs.Answers.{noError, generalError}
 use Rattle.modes.specs.Cmac.{blockCount}
 
 pub record Outcome : Type 0 where
   pub answer : ℕ
   pub output : List ℕ
-
-abbrev pub noError : ℕ
-noError = 0
-
-abbrev pub generalError : ℕ
-generalError = 12
 
 -- where the lengths are right it is done, and the output holds the result; where not, it is refused, and the output stays
 unfoldable pub outcome : Bool → List ℕ → List ℕ → Outcome
@@ -23,7 +18,7 @@ outcome right result output = record { answer = cond right noError generalError;
 
 -- ECB: key, in and out 16 bytes each; KDF: key, constant and out likewise
 unfoldable pub threeBlocks : ℕ → ℕ → ℕ → Bool
-threeBlocks first second third = right ((first, 16) ∷ (second, 16) ∷ (third, 16) ∷ [])
+threeBlocks first second third = rightLengths ((first, 16) ∷ (second, 16) ∷ (third, 16) ∷ [])
 
 -- CBC: 1 to 4,096 blocks, IV of 16 bytes, output as long as input
 unfoldable pub cbcLengths : ℕ → ℕ → ℕ → ℕ → Bool
@@ -37,4 +32,4 @@ cmacLengths key bits message output =
 
 -- compression: a start of 16 bytes, any number of whole blocks, output 16 bytes
 unfoldable pub compressLengths : ℕ → ℕ → ℕ → Bool
-compressLengths start text output = right ((start, 16) ∷ (text % 16, 0) ∷ (output, 16) ∷ [])
+compressLengths start text output = rightLengths ((start, 16) ∷ (text % 16, 0) ∷ (output, 16) ∷ [])

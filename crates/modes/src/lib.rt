@@ -18,11 +18,8 @@ ghost use Rattle.modes.specs.Cmac.{shiftLeft, double, k1, k2, cut, padde
 ghost use Rattle.modes.specs.Compression.{compressed, compressFrom, compress, kdf};
 ghost use Rattle.modes.specs.Constants.{constantOf};
 ghost use Rattle.modes.specs.Routines.{ecbEncryption, ecbDecryption, cbcEncryption, cbcDecryption, authentication, compression, derivation};
-
-// The answers' numbers.
-pub const NO_ERROR: u8 = 0;
-
-pub const GENERAL_ERROR: u8 = 12;
+use basics::GENERAL_ERROR;
+use basics::NO_ERROR;
 
 // ---- blocks and buffers
 

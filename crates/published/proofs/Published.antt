@@ -1,4 +1,4 @@
--- The definitions give the published bytes, by computation; and they load on the board, with the published answer.
+-- The definitions give the published bytes, by computation; and they load on the board, with the published proof.
 -- Assumes nothing.
 use mathlib.Core.Path.{_≡_, refl, sym, ap, ap₂, _∙_}
 use mathlib.Core.List.{List, [], _∷_, _++_, flatten}

@@ -18,23 +18,23 @@
 //     d key / block / output           ECB, back
 //     C key / iv / text / output       CBC
 //     c key / iv / text / output       CBC, back
-//     L key / iv / block / count       CBC of a text that is so many times the block; the output is as long, begins as the text,
-//                                      and only its last block is written
+//     L key / iv / block / count       CBC of a text that is so many times the block; the output is as long, begins as the
+//                                      text, and only its last block is written
 //     M key / bits / message / output  CMAC of the first bits of the message, their number in up to 8 bytes
 //     R key / bits / block / count / output    the same, of a message that is so many times the block
 //     H state / text / output          the compression carried on from a state
 //     F key / constant / output        KDF
 //
-// Key messages, with numbers in up to 8 bytes; a number that is too large for its parameter is taken as the largest there is. The
-// writer leaves an answer and M1, M2, M3, or M4 and M5.
+// Key messages, with numbers in up to 8 bytes; a number that is too large for its parameter is taken as the largest there is.
+// The writer leaves an answer and M1, M2, M3, or M4 and M5.
 //
-//     W uid / target / authority / secret / counter / flags / key / m1 / m2 / m3   the full form
+//     W uid / target / authority / authkey / counter / flags / key / m1 / m2 / m3  the full form
 //     w the same                       the short form, which has no flags
 //     f the same                       the fleet sheet, which has no uid and no flags
-//     A uid / target / authority / counter / key / m4 / m5    the answer
-//     O secret / m1 / m2 / m3          opened: whether M3 is right, counter, flags, whether the filler is zero, key
-//     P target / authority             the target's kind, its three roles, the flags that it keeps, 1 as it keeps a counter; whether
-//                                      the pair is allowed
+//     A uid / target / authority / counter / key / m4 / m5    the proof that the key was taken
+//     O authkey / m1 / m2 / m3         opened: whether M3 is right, counter, flags, whether the filler is zero, key
+//     P target / authority             the target's kind, its three roles, the flags that it keeps, 1 as it keeps a counter;
+//                                      whether the pair is allowed
 //     B byte                           target and authority of a slot byte
 ghost use Prim.Native.Nat.{_+_, _≤_, _<_};
 ghost use lib.ListN.{length};
@@ -370,13 +370,13 @@ fn word_of(value: u64) -> u32 {
 // The three forms of the writer, with the buffers for the messages lent.
 fn write_form(routine: u8, line: &[u8], m1: &mut [u8], m2: &mut [u8], m3: &mut [u8]) -> u8 {
     let mut uid_room = [0u8; MESSAGE_ROOM];
-    let mut secret_room = [0u8; MESSAGE_ROOM];
+    let mut authkey_room = [0u8; MESSAGE_ROOM];
     let mut key_room = [0u8; MESSAGE_ROOM];
     let uid_size = operand(line, 0, &mut uid_room) / 2;
-    let secret_size = operand(line, 3, &mut secret_room) / 2;
+    let authkey_size = operand(line, 3, &mut authkey_room) / 2;
     let key_size = operand(line, 6, &mut key_room) / 2;
     let uid = front(&uid_room, uid_size);
-    let secret = front(&secret_room, secret_size);
+    let authkey = front(&authkey_room, authkey_size);
     let key = front(&key_room, key_size);
     let target = byte_of(number(line, 1));
     let authority = byte_of(number(line, 2));
@@ -387,7 +387,7 @@ fn write_form(routine: u8, line: &[u8], m1: &mut [u8], m2: &mut [u8], m3: &mut [
             uid,
             target,
             authority,
-            secret,
+            authkey,
             counter,
             flags,
             key,
@@ -395,8 +395,8 @@ fn write_form(routine: u8, line: &[u8], m1: &mut [u8], m2: &mut [u8], m3: &mut [
             m2,
             m3,
         ),
-        b'w' => message::write_key_short(uid, target, authority, secret, counter, key, m1, m2, m3),
-        _ => message::fleet_sheet(target, authority, secret, counter, key, m1, m2, m3),
+        b'w' => message::write_key_short(uid, target, authority, authkey, counter, key, m1, m2, m3),
+        _ => message::fleet_sheet(target, authority, authkey, counter, key, m1, m2, m3),
     }
 }
 
@@ -416,7 +416,7 @@ fn messages(routine: u8, line: &[u8]) {
     write_bytes(m3);
 }
 
-fn answer(line: &[u8]) {
+fn proof(line: &[u8]) {
     let mut uid = [0u8; MESSAGE_ROOM];
     let mut key = [0u8; MESSAGE_ROOM];
     let mut room_4 = [0u8; MESSAGE_ROOM];
@@ -427,7 +427,7 @@ fn answer(line: &[u8]) {
     let size_5 = operand(line, 6, &mut room_5) / 2;
     let m4 = front_mut(&mut room_4, size_4);
     let m5 = front_mut(&mut room_5, size_5);
-    let number = message::write_answer(
+    let answer = message::write_proof(
         front(&uid, uid_size),
         byte_of(number(line, 1)),
         byte_of(number(line, 2)),
@@ -436,7 +436,7 @@ fn answer(line: &[u8]) {
         m4,
         m5,
     );
-    write_outcome(number, m4);
+    write_outcome(answer, m4);
     write_bytes(m5);
 }
 
@@ -450,23 +450,23 @@ fn bytes_of(word: u32) -> [u8; 4] {
 }
 
 fn open(line: &[u8]) {
-    let mut secret = [0u8; MESSAGE_ROOM];
+    let mut authkey = [0u8; MESSAGE_ROOM];
     let mut m1 = [0u8; MESSAGE_ROOM];
     let mut m2 = [0u8; MESSAGE_ROOM];
     let mut m3 = [0u8; MESSAGE_ROOM];
-    let secret_size = operand(line, 0, &mut secret) / 2;
+    let authkey_size = operand(line, 0, &mut authkey) / 2;
     let size_1 = operand(line, 1, &mut m1) / 2;
     let size_2 = operand(line, 2, &mut m2) / 2;
     let size_3 = operand(line, 3, &mut m3) / 2;
     let opened = message::open(
-        front(&secret, secret_size),
+        front(&authkey, authkey_size),
         front(&m1, size_1),
         front(&m2, size_2),
         front(&m3, size_3),
     );
     write_bytes(&[opened.genuine as u8]);
     write_bytes(&bytes_of(opened.counter));
-    write_bytes(&[opened.flags, opened.zeros as u8]);
+    write_bytes(&[opened.flags, opened.zerofill as u8]);
     write_bytes(&opened.key);
 }
 
@@ -522,7 +522,7 @@ fn run_line(line: &[u8]) {
         b'M' => cmac(operands),
         b'R' => cmac_repeated(operands),
         b'W' | b'w' | b'f' => messages(routine, operands),
-        b'A' => answer(operands),
+        b'A' => proof(operands),
         b'O' => open(operands),
         b'P' => slots(operands),
         b'B' => slot_byte(operands),

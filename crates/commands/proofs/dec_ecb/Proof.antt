@@ -1,21 +1,23 @@
 -- `commands::dec_ecb` meets its contract: refused by the order of its checks, or done under the slot's key.
 -- Assumes nothing.
 use Rattle.aes.specs.Cipher.{invCipher}
+use Rattle.device.specs.Account.{answerBy}
 use Rattle.commands.proofs.Passed.{use-refused, use-done}
-use Rattle.commands.specs.Checks.{useAnswer}
+use Rattle.commands.specs.Checks.{slotChecks}
 use Rattle.commands.specs.Commands.{decEcb}
 use Rattle.message.specs.declared.Role.the-variants.{Cipher}
 use Rattle.modes.specs.Answer.{threeBlocks}
 use borrow.Author.Needs.{needs}
 use lib.ListN.{length}
 use mathlib.Core.Bool.{Bool}
+use mathlib.Core.List.{[], _∷_}
 use mathlib.Core.Path.{_≡_, ap, _∙_}
 use Rattle.commands.proofs.dec_ecb.Statement.{statement}
 use Rattle.commands.proofs.dec_ecb.Tie as tie
 
-answer : (c : tie.After-use-answer) → let a = c .before .before .before .before .args in c .use-answer .result ≡ useAnswer (a .device) (threeBlocks 16 (length (a .input .now)) (length (a .output .now))) (a .slot) Cipher
+answer : (c : tie.After-use-answer) → let a = c .before .before .before .before .args in c .use-answer .result ≡ answerBy (a .device) (threeBlocks 16 (length (a .input .now)) (length (a .output .now))) (slotChecks (a .device) (a .slot) Cipher)
 answer c = let a = c .before .before .before .before .args in
-    c .use-answer .ensures ∙ ap (λ (l : Bool). useAnswer (a .device) l (a .slot) Cipher) (c .before .three-blocks .ensures)
+    c .use-answer .ensures ∙ ap (λ (l : Bool). answerBy (a .device) l (slotChecks (a .device) (a .slot) Cipher)) (c .before .three-blocks .ensures)
 
 three-blocks-requires : tie.Need-three-blocks-requires
 three-blocks-requires c κs = search needs
@@ -26,7 +28,7 @@ use-answer-requires c κs = search needs
 returns : tie.Need-returns
 unfolding decEcb
 returns c = let a = c .before .before .before .before .before .args in
-    use-refused (a .device) (a .slot) Cipher (λ k. threeBlocks k (length (a .input .now)) (length (a .output .now))) (λ k. invCipher k (a .input .now)) (a .output .now) _ (answer (c .before)) (c .if1 .taken)
+    use-refused (a .device) (a .slot) Cipher (λ k. threeBlocks k (length (a .input .now)) (length (a .output .now))) (λ k. invCipher k (a .input .now)) (a .input .now ∷ []) (a .output .now) _ (answer (c .before)) (c .if1 .taken)
 
 key-at-requires : tie.Need-key-at-requires
 key-at-requires c κs = search needs
@@ -46,7 +48,7 @@ returns-2 c = let m = c .before .before in
     let k = m .before .before .before in
     let o = k .before in
     let a = o .before .before .before .before .before .args in
-    use-done (a .device) (a .slot) Cipher (λ k. threeBlocks k (length (a .input .now)) (length (a .output .now))) (λ k. invCipher k (a .input .now)) (a .output .now) _ (answer (o .before))
+    use-done (a .device) (a .slot) Cipher (λ k. threeBlocks k (length (a .input .now)) (length (a .output .now))) (λ k. invCipher k (a .input .now)) (a .input .now ∷ []) (a .output .now) _ (answer (o .before))
     (k .key-at .result) _ (o .if1 .left) (search needs) (k .key-at .ensures) (m .ecb-decrypt .ensures .1)
 
 pub dec-ecb-spec : {M : Type 1} → statement M

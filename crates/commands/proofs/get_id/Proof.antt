@@ -1,17 +1,16 @@
 -- `commands::get_id` meets its contract.
 -- Assumes nothing.
 use Prim.Native.Nat.{ℕ}
-use Rattle.commands.proofs.Passed.{other-lengths}
-use Rattle.commands.specs.Checks.{otherAnswer}
+use Rattle.basics.specs.Answers.{keyNotAvailable}
+use Rattle.basics.proofs.Bytes.{block-whole}
 use Rattle.commands.specs.Commands.{identity, idMac, getId}
-use Rattle.device.proofs.Outcome.{is-refused, is-done}
-use Rattle.device.proofs.Record.{block-whole}
-use Rattle.device.specs.Answers.{keyNotAvailable}
+use Rattle.device.specs.Account.{answerBy}
+use Rattle.device.proofs.Account.{is-refused, is-done, made-and-long}
 use Rattle.device.specs.Outcome.{outcome}
 use Rattle.device.specs.Record.{masterEcuKey}
 use Rattle.device.specs.Rules.{locked}
 use Rattle.laws.proofs.Lengths.{Right, each-right}
-use Rattle.laws.specs.Lengths.{right}
+use Rattle.laws.specs.Lengths.{rightLengths}
 use borrow.Author.Needs.{needs}
 use lib.ListN.{length}
 use mathlib.Core.Bool.{Bool}
@@ -20,14 +19,14 @@ use mathlib.Core.Path.{_≡_, sym, ap, ap₂, _∙_}
 use Rattle.commands.proofs.get_id.Statement.{statement}
 use Rattle.commands.proofs.get_id.Tie as tie
 
-answer : (c : tie.After-own-answer) → let a = c .before .before .before .before .args in c .own-answer .result ≡ otherAnswer (a .device) (right ((length (a .challenge .now), 16) ∷ (length (a .output .now), 32) ∷ [])) ((locked (a .device) masterEcuKey, keyNotAvailable) ∷ [])
-unfolding right
+answer : (c : tie.After-own-answer) → let a = c .before .before .before .before .args in c .own-answer .result ≡ answerBy (a .device) (rightLengths ((length (a .challenge .now), 16) ∷ (length (a .output .now), 32) ∷ [])) ((locked (a .device) masterEcuKey, keyNotAvailable) ∷ [])
+unfolding rightLengths
 answer c = let a = c .before .before .before .before .args in
-    c .own-answer .ensures ∙ ap (λ (l : Bool). otherAnswer (a .device) (right ((length (a .challenge .now), 16) ∷ (length (a .output .now), 32) ∷ [])) ((l, keyNotAvailable) ∷ [])) (c .before .is-locked .ensures)
+    c .own-answer .ensures ∙ ap (λ (l : Bool). answerBy (a .device) (rightLengths ((length (a .challenge .now), 16) ∷ (length (a .output .now), 32) ∷ [])) ((l, keyNotAvailable) ∷ [])) (c .before .is-locked .ensures)
 
 -- past the answer the lengths are right
 lengths : (o : tie.Else1) → let a = o .before .before .before .before .before .args in (k : ℕ) → Right ((length (a .challenge .now), 16) ∷ (length (a .output .now), 32) ∷ []) k
-lengths o = each-right _ (other-lengths _ _ _ (sym (answer (o .before)) ∙ o .if1 .left))
+lengths o = each-right _ (made-and-long _ _ _ (sym (answer (o .before)) ∙ o .if1 .left) .1)
 
 is-locked-requires : tie.Need-is-locked-requires
 is-locked-requires c κs = search needs
@@ -37,7 +36,7 @@ own-answer-requires c κs = search needs
 
 returns : tie.Need-returns
 unfolding getId
-returns c = is-refused _ _ _ _ _ (answer (c .before)) (c .if1 .taken)
+returns c = is-refused _ _ _ (answer (c .before)) (c .if1 .taken)
 
 identity-requires : tie.Need-identity-requires
 identity-requires c κs = search needs
@@ -79,7 +78,7 @@ returns-2 c = let y = c .before .before in
     let challenge = b .block-at .ensures ∙ block-whole (a .challenge .now) (lengths o 0) in
     let mac = m .id-mac .ensures ∙ ap (idMac d) (t .join .ensures ∙ ap₂ _++_ challenge (i .identity .ensures)) in
     ap (λ (out : List ℕ). outcome 0 d 0 (out ∷ [])) (y .copy .ensures ∙ j .join2 .ensures ∙ ap₂ _++_ (i .identity .ensures) mac)
-    ∙ is-done _ _ _ _ _ (answer (o .before)) (o .if1 .left)
+    ∙ is-done _ _ _ (answer (o .before)) (o .if1 .left)
 
 pub get-id-spec : {M : Type 1} → statement M
 get-id-spec =

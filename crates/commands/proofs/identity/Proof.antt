@@ -1,8 +1,8 @@
 -- `commands::identity` meets its contract: the UID fills all but the last byte of its block.
 -- Assumes nothing.
 use Prim.Native.Nat.{ℕ}
+use Rattle.basics.proofs.Bytes.{uid-block}
 use Rattle.commands.specs.Commands.{identity}
-use Rattle.device.proofs.Record.{uid-block}
 use Rattle.device.specs.Rules.{status}
 use borrow.Author.Needs.{needs}
 use lib.ListN.{length, set}

@@ -1,15 +1,15 @@
 -- `commands::make` meets its contract.
 -- Assumes nothing.
 use Prim.Native.Nat.{ℕ}
+use Rattle.basics.proofs.Bytes.{block-whole, uid-whole}
+use Rattle.basics.proofs.Faults.{no-fault}
 use Rattle.commands.specs.Commands.{makeAnswer, make}
-use Rattle.device.proofs.Outcome.{is-refused, is-done}
-use Rattle.device.proofs.Record.{block-whole, uid-whole}
-use Rattle.device.specs.Made.{fresh}
-use Rattle.device.specs.Outcome.{outcome}
+use Rattle.device.proofs.Account.{where-refused, where-done}
+use Rattle.device.specs.Made.{blank, fresh}
+use Rattle.device.specs.Outcome.{outcome, refused}
 use Rattle.device.specs.declared.Device.{Device}
 use Rattle.laws.proofs.Lengths.{Right, each-right}
-use Rattle.laws.specs.Lengths.{right}
-use Rattle.message.proofs.Faults.{no-fault}
+use Rattle.laws.specs.Lengths.{rightLengths}
 use borrow.Author.Needs.{needs}
 use borrow.Author.Tests.{not-false}
 use lib.ListN.{length}
@@ -23,7 +23,7 @@ use Rattle.commands.proofs.make.Tie as tie
 lengths : (uid : List ℕ) (secret seed : ℕ) → makeAnswer uid secret seed ≡ 0 → (k : ℕ) → Right ((length uid, 15) ∷ (secret, 16) ∷ (seed, 16) ∷ []) k
 unfolding makeAnswer
 lengths uid secret seed e =
-    each-right _ (not-false _ (no-fault (not (right ((length uid, 15) ∷ (secret, 16) ∷ (seed, 16) ∷ []))) 12 _ (λ z. omega arith) e .0))
+    each-right _ (not-false _ (no-fault (not (rightLengths ((length uid, 15) ∷ (secret, 16) ∷ (seed, 16) ∷ []))) 12 _ (λ z. omega arith) e .0))
 
 make-answer-requires : tie.Need-make-answer-requires
 make-answer-requires c κs = search needs
@@ -34,7 +34,7 @@ blank-requires c κs = search needs
 returns : tie.Need-returns
 unfolding make
 returns c = let t = c .before in
-    ap (λ (d : Device). outcome (t .before .make-answer .result) d 0 []) (c .blank .ensures) ∙ is-refused _ _ _ _ _ (t .before .make-answer .ensures) (t .if1 .taken)
+    ap (λ (d : Device). outcome (t .before .make-answer .result) d 0 []) (c .blank .ensures) ∙ where-refused _ _ _ (λ answer. refused answer blank []) (t .before .make-answer .ensures) (t .if1 .taken)
 
 uid-from-requires : tie.Need-uid-from-requires
 uid-from-requires c κs = search needs
@@ -56,7 +56,7 @@ returns-2 c = let o = c .before .before .before .before in
     let uid = c .before .before .before .uid-from .ensures ∙ uid-whole (a .uid .now) (l 0) in
     let secret = c .before .before .block-at .ensures ∙ block-whole (a .secret .now) (l 1) in
     let seed = c .before .block-at2 .ensures ∙ block-whole (a .seed .now) (l 2) in
-    ap (λ (d : Device). outcome 0 d 0 []) (c .fresh .ensures ∙ rw (uid, secret, seed)) ∙ is-done _ _ _ _ _ (o .before .make-answer .ensures) (o .if1 .left)
+    ap (λ (d : Device). outcome 0 d 0 []) (c .fresh .ensures ∙ rw (uid, secret, seed)) ∙ where-done _ _ _ (λ answer. refused answer blank []) (o .before .make-answer .ensures) (o .if1 .left)
 
 pub make-spec : {M : Type 1} → statement M
 make-spec =

@@ -1,8 +1,8 @@
 -- `commands::own_answer` meets its contract, check by check.
 -- Assumes nothing.
-use Rattle.commands.specs.Checks.{otherAnswer}
 use borrow.Author.Needs.{needs}
 use mathlib.Core.Path.{sym}
+use Rattle.device.specs.Account.{answerBy}
 use Rattle.commands.proofs.own_answer.Statement.{statement}
 use Rattle.commands.proofs.own_answer.Tie as tie
 
@@ -10,19 +10,19 @@ is-made-requires : tie.Need-is-made-requires
 is-made-requires c κs = search needs
 
 returns : tie.Need-returns
-unfolding otherAnswer
+unfolding answerBy
 returns c = simp (sym (c .before .is-made .ensures), c .if1 .taken)
 
 returns-2 : tie.Need-returns-2
-unfolding otherAnswer
+unfolding answerBy
 returns-2 c = simp (sym (c .before .before .is-made .ensures), c .before .if1 .left, c .if2 .taken)
 
 returns-3 : tie.Need-returns-3
-unfolding otherAnswer
+unfolding answerBy
 returns-3 c = simp (sym (c .before .before .before .is-made .ensures), c .before .before .if1 .left, c .before .if2 .left, c .if3 .taken)
 
 returns-4 : tie.Need-returns-4
-unfolding otherAnswer
+unfolding answerBy
 returns-4 c = simp (sym (c .before .before .before .is-made .ensures), c .before .before .if1 .left, c .before .if2 .left, c .if3 .left)
 
 pub own-answer-spec : {M : Type 1} → statement M

@@ -1,6 +1,6 @@
 -- `commands::use_answer` meets its contract, check by check.
 -- Assumes nothing.
-use Rattle.commands.specs.Checks.{useAnswer}
+use Rattle.device.specs.Account.{answerBy}
 use borrow.Author.Needs.{needs}
 use mathlib.Core.Path.{sym}
 use Rattle.commands.proofs.use_answer.Statement.{statement}
@@ -10,18 +10,18 @@ is-made-requires : tie.Need-is-made-requires
 is-made-requires c κs = search needs
 
 returns : tie.Need-returns
-unfolding useAnswer
+unfolding answerBy
 returns c = simp (sym (c .before .is-made .ensures), c .if1 .taken)
 
 returns-2 : tie.Need-returns-2
-unfolding useAnswer
+unfolding answerBy
 returns-2 c = simp (sym (c .before .before .is-made .ensures), c .before .if1 .left, c .if2 .taken)
 
 has-role-requires : tie.Need-has-role-requires
 has-role-requires c κs = search needs
 
 returns-3 : tie.Need-returns-3
-unfolding useAnswer
+unfolding answerBy
 returns-3 c = let e2 = c .before .before in
     let e1 = e2 .before in
     simp (sym (e1 .before .is-made .ensures), e1 .if1 .left, e2 .if2 .left, sym (c .before .has-role .ensures), c .if3 .taken)
@@ -30,7 +30,7 @@ is-empty-requires : tie.Need-is-empty-requires
 is-empty-requires c κs = search needs
 
 returns-4 : tie.Need-returns-4
-unfolding useAnswer
+unfolding answerBy
 returns-4 c = let e3 = c .before .before in
     let e2 = e3 .before .before in
     let e1 = e2 .before in
@@ -40,7 +40,7 @@ is-locked-requires : tie.Need-is-locked-requires
 is-locked-requires c κs = search needs
 
 returns-5 : tie.Need-returns-5
-unfolding useAnswer
+unfolding answerBy
 returns-5 c = let e4 = c .before .before in
     let e3 = e4 .before .before in
     let e2 = e3 .before .before in
@@ -54,7 +54,7 @@ usage-fits-requires : tie.Need-usage-fits-requires
 usage-fits-requires c κs = search needs
 
 returns-6 : tie.Need-returns-6
-unfolding useAnswer
+unfolding answerBy
 returns-6 c = let e5 = c .before .before .before in
     let e4 = e5 .before .before in
     let e3 = e4 .before .before in
@@ -63,7 +63,7 @@ returns-6 c = let e5 = c .before .before .before in
     simp (sym (e1 .before .is-made .ensures), e1 .if1 .left, e2 .if2 .left, sym (e3 .before .has-role .ensures), e3 .if3 .left, sym (e4 .before .is-empty .ensures), e4 .if4 .left, sym (e5 .before .is-locked .ensures), e5 .if5 .left, sym (c .before .before .flags-at .ensures), sym (c .before .usage-fits .ensures), c .if6 .taken)
 
 returns-7 : tie.Need-returns-7
-unfolding useAnswer
+unfolding answerBy
 returns-7 c = let e5 = c .before .before .before in
     let e4 = e5 .before .before in
     let e3 = e4 .before .before in

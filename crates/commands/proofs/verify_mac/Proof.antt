@@ -1,11 +1,12 @@
 -- `commands::verify_mac` meets its contract.
 -- Assumes nothing.
 use Rattle.aes.specs.Cipher.{cipher}
-use Rattle.commands.proofs.Passed.{use-lengths, keyed}
-use Rattle.commands.specs.Checks.{useAnswer}
+use Rattle.basics.proofs.Bytes.{block-whole}
+use Rattle.commands.proofs.Passed.{keyed}
+use Rattle.commands.specs.Checks.{slotChecks}
 use Rattle.commands.specs.Commands.{macAgrees, verifyMac}
-use Rattle.device.proofs.Outcome.{is-refused, is-done}
-use Rattle.device.proofs.Record.{block-whole}
+use Rattle.device.specs.Account.{answerBy}
+use Rattle.device.proofs.Account.{is-refused, is-done, made-and-long}
 use Rattle.device.specs.Outcome.{outcome}
 use Rattle.device.specs.Record.{keyAt}
 use Rattle.laws.proofs.Test.{both}
@@ -25,13 +26,13 @@ use native.Mathlib.Omega.{arith}
 use Rattle.commands.proofs.verify_mac.Statement.{statement}
 use Rattle.commands.proofs.verify_mac.Tie as tie
 
-answer : (c : tie.After-use-answer) → let a = c .before .before .before .before .args in c .use-answer .result ≡ useAnswer (a .device) (cmacLengths 16 (a .bits) (length (a .message .now)) (length (a .mac .now)) && leb (a .macbits) 127) (a .slot) VerifyMac
+answer : (c : tie.After-use-answer) → let a = c .before .before .before .before .args in c .use-answer .result ≡ answerBy (a .device) (cmacLengths 16 (a .bits) (length (a .message .now)) (length (a .mac .now)) && leb (a .macbits) 127) (slotChecks (a .device) (a .slot) VerifyMac)
 answer c = let a = c .before .before .before .before .args in
-    c .use-answer .ensures ∙ ap (λ (l : Bool). useAnswer (a .device) (l && leb (a .macbits) 127) (a .slot) VerifyMac) (c .before .cmac-lengths .ensures)
+    c .use-answer .ensures ∙ ap (λ (l : Bool). answerBy (a .device) (l && leb (a .macbits) 127) (slotChecks (a .device) (a .slot) VerifyMac)) (c .before .cmac-lengths .ensures)
 
 -- past the answer the lengths are right
 passed : (o : tie.Else1) → let a = o .before .before .before .before .before .args in (cmacLengths 16 (a .bits) (length (a .message .now)) (length (a .mac .now)) ≡ true) × (leb (a .macbits) 127 ≡ true)
-passed o = both _ _ (use-lengths _ _ _ _ (sym (answer (o .before)) ∙ o .if1 .left))
+passed o = both _ _ (made-and-long _ _ _ (sym (answer (o .before)) ∙ o .if1 .left) .1)
 
 cmac-lengths-requires : tie.Need-cmac-lengths-requires
 cmac-lengths-requires c κs = search needs
@@ -41,7 +42,7 @@ use-answer-requires c κs = search needs
 
 returns : tie.Need-returns
 unfolding verifyMac
-returns c = is-refused _ _ _ _ _ (answer (c .before)) (c .if1 .taken)
+returns c = is-refused _ _ _ (answer (c .before)) (c .if1 .taken)
 
 key-at-requires : tie.Need-key-at-requires
 key-at-requires c κs = search needs
@@ -76,7 +77,7 @@ returns-2 c = let m = c .before .before .before in
     let expected = keyed (λ n. cmacLengths n (a .bits) (length (a .message .now)) 16) (λ n. cmac (cipher n) (a .bits) (a .message .now)) (k .key-at .result) (keyAt (a .device) (a .slot)) (replicate 16 0) _ (search needs) (k .key-at .ensures) (sym (ap (cmacLengths 16 (a .bits) (length (a .message .now))) (facts .3)) ∙ right .0) (m .cmac .ensures .1) in
     let given = c .before .block-at .ensures ∙ block-whole (a .mac .now) (facts .3) in
     ap (λ (b : Bool). outcome 0 (a .device) (boolByte b) []) (c .mac-agrees .ensures ∙ ap₂ (macAgrees (a .macbits)) expected given)
-    ∙ is-done _ _ _ _ _ (answer (o .before)) (o .if1 .left)
+    ∙ is-done _ _ _ (answer (o .before)) (o .if1 .left)
 
 pub verify-mac-spec : {M : Type 1} → statement M
 verify-mac-spec =

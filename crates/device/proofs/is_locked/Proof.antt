@@ -8,12 +8,15 @@ use Rattle.device.proofs.is_locked.Tie as tie
 flags-at-requires : tie.Need-flags-at-requires
 flags-at-requires c κs = search needs
 
+is-marked-requires : tie.Need-is-marked-requires
+is-marked-requires c κs = search needs
+
 has-flag-requires : tie.Need-has-flag-requires
 has-flag-requires c κs = search needs
 
 returns : tie.Need-returns
 unfolding locked
-returns c = rw (c .has-flag .ensures, c .before .before .flags-at .ensures)
+returns c = rw (c .has-flag .ensures, c .before .is-marked .ensures, c .before .before .flags-at .ensures)
 
 pub is-locked-spec : {M : Type 1} → statement M
-is-locked-spec = tie.close (tie.spec flags-at-requires has-flag-requires returns)
+is-locked-spec = tie.close (tie.spec flags-at-requires is-marked-requires has-flag-requires returns)

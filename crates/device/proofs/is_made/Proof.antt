@@ -23,6 +23,9 @@ slice-aggregate-is-same-3 c = search needs
 is-same-requires-3 : tie.Need-is-same-requires-3
 is-same-requires-3 c κs = search needs
 
+is-marked-requires : tie.Need-is-marked-requires
+is-marked-requires c κs = search needs
+
 is-empty-requires : tie.Need-is-empty-requires
 is-empty-requires c κs = search needs
 
@@ -32,13 +35,27 @@ slots-fine-requires c κs = search needs
 is-empty-requires-2 : tie.Need-is-empty-requires-2
 is-empty-requires-2 c κs = search needs
 
+is-marked-requires-2 : tie.Need-is-marked-requires-2
+is-marked-requires-2 c κs = search needs
+
+is-marked-requires-3 : tie.Need-is-marked-requires-3
+is-marked-requires-3 c κs = search needs
+
+marks-fine-requires : tie.Need-marks-fine-requires
+marks-fine-requires c κs = search needs
+
 returns : tie.Need-returns
 unfolding made
-returns c = let e = c .before .before in
-    let k = e .before in
+returns c = let r = c .before in
+    let p = r .before in
+    let e2 = p .before in
+    let f = e2 .before in
+    let e = f .before in
+    let m = e .before in
+    let k = m .before in
     let s = k .before .before .before .before .before in
     let u = s .before .before .before .before .before in
-    rw (u .is-same .ensures, s .is-same2 .ensures, k .is-same3 .ensures, e .is-empty .ensures, c .before .slots-fine .ensures, c .is-empty2 .ensures)
+    rw (u .is-same .ensures, s .is-same2 .ensures, k .is-same3 .ensures, m .is-marked .ensures, e .is-empty .ensures, f .slots-fine .ensures, e2 .is-empty2 .ensures, p .is-marked2 .ensures, r .is-marked3 .ensures, c .marks-fine .ensures)
 
 pub is-made-spec : {M : Type 1} → statement M
 is-made-spec =
@@ -50,7 +67,11 @@ is-made-spec =
     is-same-requires-2
     slice-aggregate-is-same-3
     is-same-requires-3
+    is-marked-requires
     is-empty-requires
     slots-fine-requires
     is-empty-requires-2
+    is-marked-requires-2
+    is-marked-requires-3
+    marks-fine-requires
     returns)

@@ -2,9 +2,10 @@
 -- Assumes nothing.
 use Prim.Native.Nat.{ℕ}
 use Rattle.laws.proofs.Lengths.{Right, each-right}
-use Rattle.laws.specs.Lengths.{right}
+use Rattle.laws.specs.Lengths.{rightLengths}
+use Rattle.device.specs.Account.{answerBy}
 use Rattle.load.proofs.Exporting.{export-lengths, ram-by-secret, export-refused, export-done}
-use Rattle.load.specs.Export.{exportAnswer}
+use Rattle.load.specs.Export.{exportChecks}
 use Rattle.load.specs.Load.{fiveLengths}
 use Rattle.message.proofs.Written.{wrote-messages}
 use Rattle.message.specs.Flags.{flagCount}
@@ -17,9 +18,9 @@ use Rattle.load.proofs.export_ram_key.Statement.{statement}
 use Rattle.load.proofs.export_ram_key.Tie as tie
 
 -- the answer, and what is known past it
-answer : (c : tie.After-export-answer) → let a = c .before .before .before .before .before .before .before .args in c .export-answer .result ≡ exportAnswer (a .device) (right (fiveLengths (length (a .m1 .now)) (length (a .m2 .now)) (length (a .m3 .now)) (length (a .m4 .now)) (length (a .m5 .now))))
+answer : (c : tie.After-export-answer) → let a = c .before .before .before .before .before .before .before .args in c .export-answer .result ≡ answerBy (a .device) (rightLengths (fiveLengths (length (a .m1 .now)) (length (a .m2 .now)) (length (a .m3 .now)) (length (a .m4 .now)) (length (a .m5 .now)))) (exportChecks (a .device))
 answer c = let a = c .before .before .before .before .before .before .before .args in
-    c .export-answer .ensures ∙ ap (λ (l : Bool). exportAnswer (a .device) l) (c .before .five-lengths .ensures)
+    c .export-answer .ensures ∙ ap (λ (l : Bool). answerBy (a .device) l (exportChecks (a .device))) (c .before .five-lengths .ensures)
 
 lengths : (o : tie.Else1) → let a = o .before .before .before .before .before .before .before .before .args in (k : ℕ) → Right (fiveLengths (length (a .m1 .now)) (length (a .m2 .now)) (length (a .m3 .now)) (length (a .m4 .now)) (length (a .m5 .now))) k
 lengths o = each-right _ (export-lengths _ _ (sym (answer (o .before)) ∙ o .if1 .left))
@@ -62,8 +63,8 @@ slice-aggregate-write-key-3 c = search needs
 write-key-requires : tie.Need-write-key-requires
 write-key-requires c κs = search needs
 
-write-proof-requires : tie.Need-write-proof-requires
-write-proof-requires c κs = let k = c .before .before .before .before .before .before .before .before in
+leave-proof-requires : tie.Need-leave-proof-requires
+leave-proof-requires c κs = let k = c .before .before .before .before .before .before .before .before in
     let l = lengths (k .before .before .before .before .before .before .before .before .before .before) in
     (ram-by-secret, omega arith, l 3, l 4)
 
@@ -93,7 +94,7 @@ returns-2 c = let w = c .before .before .before .before in
     let l = lengths o in
     let sent = wrote-messages (a .device .uid) (r .key-at2 .result) 14 0 0 (uid-long s) (key-long r) (omega arith) ram-by-secret (z .key-at .result) (a .m1 .now) (a .m2 .now) (a .m3 .now) _ _ _ 0 _ (secret-long z) (l 0) (l 1) (l 2) (omega arith) (k .write-key .ensures) in
     export-done flagCount (a .device) (a .m1 .now) (a .m2 .now) (a .m3 .now) (a .m4 .now) (a .m5 .now) _ (answer (o .before)) (z .key-at .result) (r .key-at2 .result) (z .key-at .ensures) (r .key-at2 .ensures)
-    _ _ _ _ _ (o .if1 .left) sent (w .write-proof .ensures)
+    _ _ _ _ _ (o .if1 .left) sent (w .leave-proof .ensures)
 
 pub export-ram-key-spec : {M : Type 1} → statement M
 export-ram-key-spec =
@@ -108,7 +109,7 @@ export-ram-key-spec =
     slice-aggregate-write-key-2
     slice-aggregate-write-key-3
     write-key-requires
-    write-proof-requires
+    leave-proof-requires
     same-length
     same-length-2
     same-length-3

@@ -6,8 +6,14 @@ use mathlib.Core.Path.{_∙_}
 use Rattle.load.proofs.loaded.Statement.{statement}
 use Rattle.load.proofs.loaded.Tie as tie
 
+element-copy-out-plain-after : tie.Need-element-copy-out-plain-after
+element-copy-out-plain-after c = search needs
+
 plain-after-requires : tie.Need-plain-after-requires
 plain-after-requires c κs = search needs
+
+element-write-marked : tie.Need-element-write-marked
+element-write-marked c = search needs
 
 counter-kept-requires : tie.Need-counter-kept-requires
 counter-kept-requires c κs = search needs
@@ -25,4 +31,4 @@ returns c = c .put-slot .ensures ∙ rw (c .before .kept .ensures, c .before .be
 pub loaded-spec : {M : Type 1} → statement M
 loaded-spec =
     tie.close
-    (tie.spec plain-after-requires counter-kept-requires kept-requires put-slot-requires returns)
+    (tie.spec element-copy-out-plain-after plain-after-requires element-write-marked counter-kept-requires kept-requires put-slot-requires returns)

@@ -9,7 +9,7 @@ use borrow.Author.Needs.{needs}
 use borrow.Author.Tests.{not-true, not-false}
 use Rattle.aes.specs.Cipher.{invCipher}
 use Rattle.laws.proofs.Lengths.{each-right}
-use Rattle.laws.specs.Lengths.{right}
+use Rattle.laws.specs.Lengths.{rightLengths}
 use Rattle.laws.specs.Same.{same}
 use Rattle.modes.specs.Blocks.{zeroBlock}
 use Rattle.modes.specs.Cbc.{cbcDecrypt}
@@ -22,11 +22,11 @@ use Rattle.message.proofs.open.Statement.{statement}
 use Rattle.message.proofs.open.Tie as tie
 
 -- past the first test the lengths are right
-passed : (c : tie.Else1) → let a = c .before .before .before .before .before .before .args in right (openLengths (length (a .secret .now)) (length (a .m1 .now)) (length (a .m2 .now)) (length (a .m3 .now))) ≡ true
+passed : (c : tie.Else1) → let a = c .before .before .before .before .before .before .args in rightLengths (openLengths (length (a .authkey .now)) (length (a .m1 .now)) (length (a .m2 .now)) (length (a .m3 .now))) ≡ true
 passed c = sym (c .before .open-lengths .ensures) ∙ not-false _ (c .if1 .left)
 
 -- what M3 is compared with
-compared : (c : tie.After-is-same) → let a = c .before .before .before .before .before .before .before .before .before .before .before .args in c .is-same .result ≡ same (a .m3 .now) (m3 (a .secret .now) (a .m1 .now) (a .m2 .now))
+compared : (c : tie.After-is-same) → let a = c .before .before .before .before .before .before .before .before .before .before .before .args in c .is-same .result ≡ same (a .m3 .now) (m3 (a .authkey .now) (a .m1 .now) (a .m2 .now))
 compared c = let w = c .before .before .before in
     let a = w .before .before .before .before .before .before .before .before .args in
     c .is-same .ensures ∙ ap (same (a .m3 .now)) (w .write-m3 .ensures)
@@ -40,7 +40,7 @@ not-opened-requires c κs = search needs
 returns : tie.Need-returns
 returns c = let o = c .before .before in
     let a = o .before .before .before .before .before .args in
-    let closed = closed-by-lengths flagCount (a .secret .now) (a .m1 .now) (a .m2 .now) (a .m3 .now) (sym (o .open-lengths .ensures) ∙ not-true _ (c .before .if1 .taken)) in
+    let closed = closed-by-lengths flagCount (a .authkey .now) (a .m1 .now) (a .m2 .now) (a .m3 .now) (sym (o .open-lengths .ensures) ∙ not-true _ (c .before .if1 .taken)) in
     (c .not-opened .ensures .0 ∙ closed, c .not-opened .ensures .1)
 
 slice-aggregate-write-m3 : tie.Need-slice-aggregate-write-m3
@@ -62,7 +62,7 @@ returns-2 : tie.Need-returns-2
 returns-2 c = let s = c .before .before in
     let l = s .before .before .before .before .before in
     let a = l .before .before .before .before .before .before .args in
-    let closed = closed-by-m3 flagCount (a .secret .now) (a .m1 .now) (a .m2 .now) (a .m3 .now) (passed l) (sym (compared s) ∙ not-true _ (c .before .if2 .taken)) in
+    let closed = closed-by-m3 flagCount (a .authkey .now) (a .m1 .now) (a .m2 .now) (a .m3 .now) (passed l) (sym (compared s) ∙ not-true _ (c .before .if2 .taken)) in
     (c .not-opened2 .ensures .0 ∙ closed, c .not-opened2 .ensures .1)
 
 derived-requires : tie.Need-derived-requires
@@ -92,7 +92,7 @@ returns-3 c = let m = c .before .before in
     let a = l .before .before .before .before .before .before .args in
     let clear = decrypts (d .derived .result) (replicate 32 0) _ (search needs) zeroBlock (a .m2 .now) refl (each-right _ (passed l) 2) refl (m .cbc-decrypt .ensures .1) in
     let text = clear ∙ ap (λ (k : List ℕ). cbcDecrypt (invCipher k) zeroBlock (a .m2 .now)) (d .derived .ensures) in
-    let opens = opened-by-m3 flagCount (a .secret .now) (a .m1 .now) (a .m2 .now) (a .m3 .now) (passed l) (sym (compared s) ∙ not-false _ (d .before .if2 .left)) in
+    let opens = opened-by-m3 flagCount (a .authkey .now) (a .m1 .now) (a .m2 .now) (a .m3 .now) (passed l) (sym (compared s) ∙ not-false _ (d .before .if2 .left)) in
     (c .read-clear .ensures .0 ∙ ap (openedText flagCount) text ∙ opens, c .read-clear .ensures .1)
 
 pub open-spec : {M : Type 1} → statement M

@@ -9,37 +9,37 @@ use lib.ListN.{length}
 use lib.Seq.{take-all}
 use borrow.Author.Needs.{needs}
 use Rattle.laws.proofs.Lengths.{Right, each-right}
-use Rattle.laws.specs.Lengths.{right}
+use Rattle.laws.specs.Lengths.{rightLengths}
 use Rattle.message.proofs.Slots.{pair-slots}
 use Rattle.message.proofs.Written.{no-faults, messages-refused, messages-written}
 use Rattle.message.specs.FirstBlock.{maxCounter}
 use Rattle.message.specs.Messages.{m1}
 use Rattle.message.specs.Slots.{allowed}
-use Rattle.message.specs.Writer.{messageAnswer, messageLengths}
+use Rattle.message.specs.Writer.{writerAnswer, messageLengths}
 use Rattle.message.proofs.write_key.Statement.{statement}
 use Rattle.message.proofs.write_key.Tie as tie
 
 -- the answer, and what is known past it
-answer : (c : tie.After-message-answer) → let a = c .before .before .before .before .before .before .before .before .args in c .message-answer .result ≡ messageAnswer (right (messageLengths (length (a .uid .now)) (length (a .secret .now)) (length (a .key .now)) (length (a .m1 .now)) (length (a .m2 .now)) (length (a .m3 .now)))) (a .counter) (a .flags) (a .target) (a .authority)
+answer : (c : tie.After-writer-answer) → let a = c .before .before .before .before .before .before .before .before .args in c .writer-answer .result ≡ writerAnswer (rightLengths (messageLengths (length (a .uid .now)) (length (a .authkey .now)) (length (a .key .now)) (length (a .m1 .now)) (length (a .m2 .now)) (length (a .m3 .now)))) (a .counter) (a .flags) (a .target) (a .authority)
 answer c = let a = c .before .before .before .before .before .before .before .before .args in
-    c .message-answer .ensures ∙ ap (λ (l : Bool). messageAnswer l (a .counter) (a .flags) (a .target) (a .authority)) (c .before .message-lengths .ensures)
+    c .writer-answer .ensures ∙ ap (λ (l : Bool). writerAnswer l (a .counter) (a .flags) (a .target) (a .authority)) (c .before .message-lengths .ensures)
 
 module _ (c : tie.Else1) where
-  rules : let a = c .before .before .before .before .before .before .before .before .before .args in (right (messageLengths (length (a .uid .now)) (length (a .secret .now)) (length (a .key .now)) (length (a .m1 .now)) (length (a .m2 .now)) (length (a .m3 .now))) ≡ true) × (a .counter ≤ maxCounter) × (a .flags < 32) × (allowed (a .target) (a .authority) ≡ true)
+  rules : let a = c .before .before .before .before .before .before .before .before .before .args in (rightLengths (messageLengths (length (a .uid .now)) (length (a .authkey .now)) (length (a .key .now)) (length (a .m1 .now)) (length (a .m2 .now)) (length (a .m3 .now))) ≡ true) × (a .counter ≤ maxCounter) × (a .flags < 32) × (allowed (a .target) (a .authority) ≡ true)
   rules = no-faults _ _ _ _ _ (sym (answer (c .before)) ∙ c .if1 .left)
 
-  lengths : let a = c .before .before .before .before .before .before .before .before .before .args in (k : ℕ) → Right (messageLengths (length (a .uid .now)) (length (a .secret .now)) (length (a .key .now)) (length (a .m1 .now)) (length (a .m2 .now)) (length (a .m3 .now))) k
+  lengths : let a = c .before .before .before .before .before .before .before .before .before .args in (k : ℕ) → Right (messageLengths (length (a .uid .now)) (length (a .authkey .now)) (length (a .key .now)) (length (a .m1 .now)) (length (a .m2 .now)) (length (a .m3 .now))) k
   lengths = each-right _ (rules .0)
 
 message-lengths-requires : tie.Need-message-lengths-requires
 message-lengths-requires c κs = search needs
 
-message-answer-requires : tie.Need-message-answer-requires
-message-answer-requires c κs = search needs
+writer-answer-requires : tie.Need-writer-answer-requires
+writer-answer-requires c κs = search needs
 
 returns : tie.Need-returns
 returns c = let a = c .before .before .before .before .before .before .before .before .before .args in
-    messages-refused (a .uid .now) (a .secret .now) (a .key .now) (a .m1 .now) (a .m2 .now) (a .m3 .now) (a .target) (a .authority) (a .counter) (a .flags) _ (answer (c .before)) (c .if1 .taken)
+    messages-refused (a .uid .now) (a .authkey .now) (a .key .now) (a .m1 .now) (a .m2 .now) (a .m3 .now) (a .target) (a .authority) (a .counter) (a .flags) _ (answer (c .before)) (c .if1 .taken)
 
 slot-byte-requires : tie.Need-slot-byte-requires
 slot-byte-requires c κs = let s = pair-slots _ _ (rules c .3) in (omega (arith, s), omega (arith, s))
@@ -74,7 +74,7 @@ returns-2 c = let w3 = c .before .before in
     let a = o .before .before .before .before .before .before .before .before .before .args in
     let first = w1 .write-head .last .1 .1 .0 in
     let head = sym (take-all 16 first (omega (arith, lengths o 3))) ∙ w1 .write-head .ensures ∙ ap (λ (s : ℕ). a .uid .now ++ (s ∷ [])) (b .slot-byte .ensures) in
-    messages-written (a .uid .now) (a .secret .now) (a .key .now) (a .m1 .now) (a .m2 .now) (a .m3 .now) (a .target) (a .authority) (a .counter) (a .flags) _ (answer (o .before))
+    messages-written (a .uid .now) (a .authkey .now) (a .key .now) (a .m1 .now) (a .m2 .now) (a .m3 .now) (a .target) (a .authority) (a .counter) (a .flags) _ (answer (o .before))
     first (w2 .write-m2 .last .1 .1 .1 .1 .0) (w3 .write-m3 .last .1 .1 .1 .0) (o .if1 .left) head (w2 .write-m2 .ensures) (w3 .write-m3 .ensures)
 
 pub write-key-spec : {M : Type 1} → statement M
@@ -82,7 +82,7 @@ write-key-spec =
     tie.close
     (tie.spec
     message-lengths-requires
-    message-answer-requires
+    writer-answer-requires
     returns
     slot-byte-requires
     write-head-requires

@@ -1,0 +1,27 @@
+-- A mark set anew: that mark is what was set, and every other is as it was.
+-- Assumes nothing.
+use mathlib.Core.Path.{_≡_, ap, _∙_}
+use Prim.Native.Nat.{ℕ, _<_}
+use native.Mathlib.Omega.{arith}
+use lib.ListN.{length-set}
+use lib.Seq.{getD-set-same, getD-set-other}
+use Rattle.device.specs.Record.{isOn, markCount, isMarked, setMark, Shaped}
+use Rattle.device.specs.declared.Device.{Device}
+
+module _ (place mark : ℕ) (d : Device) where
+  pub that-mark : Shaped d → place < markCount → isMarked (setMark place mark d) place ≡ isOn mark
+  that-mark shaped fits = ap isOn (getD-set-same (d .marks) place mark 0 (omega (arith, fits, shaped .all-marks)))
+
+  pub other-mark : (place′ : ℕ) → (place′ ≡ place → ⊥) → isMarked (setMark place mark d) place′ ≡ isMarked d place′
+  other-mark place′ other = ap isOn (getD-set-other (d .marks) place place′ mark 0 other)
+
+  pub mark-shape : Shaped d → Shaped (setMark place mark d)
+  mark-shape shaped = record {
+    all-keys = shaped .all-keys;
+    key-bytes = shaped .key-bytes;
+    all-counters = shaped .all-counters;
+    all-flags = shaped .all-flags;
+    all-empty = shaped .all-empty;
+    uid-long = shaped .uid-long;
+    all-marks = length-set (d .marks) place mark ∙ shaped .all-marks;
+  }
