@@ -21,7 +21,7 @@ pub const OFF: u8 = 0;
 pub const ON: u8 = 1;
 
 // The places of the marks: random numbers are initialised, slot 14 came in plain, a debugger is attached, the device is made.
-// The other places are for marks to come, and stay as making leaves them: off.
+// The other places are for marks to come: making leaves them off, and every call leaves them as they are.
 pub const RNG_MARK: usize = 0;
 
 pub const PLAIN_MARK: usize = 1;
