@@ -24,7 +24,7 @@ use Rattle.device.specs.declared.Device.{Device}
 use Rattle.device.specs.declared.Slot.{Slot}
 use Rattle.device.proofs.Account.{made-and-long}
 use Rattle.device.proofs.Effects.{Effective, loads-nothing, sets-mark}
-use Rattle.device.proofs.Made.{Fits, AtRest, Made, facts, is-made, mark-fits, put-sound, empty-there, empty-elsewhere}
+use Rattle.device.proofs.Made.{Fits, AtRest, Made, facts, is-made, plain-still, rests-still, mark-fits, put-sound, empty-there, empty-elsewhere}
 use Rattle.device.proofs.Marks.{that-mark, other-mark, mark-shape}
 use Rattle.device.proofs.Slots.{put-fits, other-slot}
 use Rattle.commands.specs.Commands.{reset, attachDebugger, loadPlainKey, initRng, extendSeed, rnd}
@@ -46,7 +46,7 @@ module _ (d : Device) (sound : Sound d) (seed state key : List ℕ) where
       = record {
         fits = mark-fits rngMark on moved (sound .0) (omega arith) refl (f .fits) (λ z. omega (arith, z));
         secret = f .secret;
-        plain-fits = ap (λ (b : Bool). not (isEmpty d ramKey) || not b) (other-mark rngMark on moved plainMark (λ z. omega (arith, z))) ∙ f .plain-fits;
+        plain-fits = plain-still rngMark on moved (f .plain-fits) (λ z. omega (arith, z));
         at-rest = ap (λ (b : Bool). b || (same state zeroBlock && same key zeroBlock)) (that-mark rngMark on moved (sound .0) (omega arith));
       } in
       (mark-shape rngMark on moved (sound .0), is-made (setMark rngMark on moved) m)
@@ -154,8 +154,7 @@ module _ (d : Device) (sound : Sound d) (key : List ℕ) (block : Block key) whe
   unfolding slotFine counterKept kept flagsKept rowOf
   plain-sound =
       let f = facts d (sound .1) in
-      let rest = ap (λ (b : Bool). b || (same (d .state) zeroBlock && same (d .rngkey) zeroBlock)) (other-mark plainMark on d rngMark (λ z. omega (arith, z)))
-      ∙ f .at-rest in
+      let rest = rests-still plainMark on d (f .at-rest) (λ z. omega (arith, z)) in
       ram-sound marked key off (mark-shape plainMark on d (sound .0)) block
       (mark-fits plainMark on d (sound .0) (omega arith) refl (f .fits) (λ z. omega (arith, z))) (f .secret) rest refl refl
 

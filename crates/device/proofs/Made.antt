@@ -94,6 +94,17 @@ module _ (d : Device) (m : Made d) where
       let same = eqb-true _ _ (both (isMark (emptyAt d s) && counter) flags three .1) in
       sym same ∙ ap (bitAnd (flagsAt d s)) none ∙ and-zero-r (flagsAt d s)
 
+-- ---- a mark set anew leaves what ties another
+module _ (place mark : ℕ) (d : Device) where
+  pub plain-still : PlainFits d → (place ≡ plainMark → ⊥) → PlainFits (setMark place mark d)
+  plain-still fits other =
+      ap (λ (b : Bool). not (isEmpty d ramKey) || not b) (other-mark place mark d plainMark (λ e. other (sym e))) ∙ fits
+
+  pub rests-still : AtRest d → (place ≡ rngMark → ⊥) → AtRest (setMark place mark d)
+  rests-still rests other =
+      ap (λ (b : Bool). b || (same (d .state) zeroBlock && same (d .rngkey) zeroBlock)) (other-mark place mark d rngMark (λ e. other (sym e)))
+      ∙ rests
+
 -- ---- a mark set anew, other than that the device is made
 module _ (place mark : ℕ) (d : Device) (shaped : Shaped d) (room : place < markCount) (h : isMark mark ≡ true) where
   pub mark-fits : Fits d → (place ≡ madeMark → ⊥) → Fits (setMark place mark d)
@@ -115,10 +126,8 @@ module _ (place mark : ℕ) (d : Device) (shaped : Shaped d) (room : place < mar
   mark-set m made plain rng = record {
     fits = mark-fits (m .fits) made;
     secret = m .secret;
-    plain-fits = ap (λ (b : Bool). not (isEmpty d ramKey) || not b) (other-mark place mark d plainMark (λ e. plain (sym e)))
-        ∙ m .plain-fits;
-    at-rest = ap (λ (b : Bool). b || (same (d .state) zeroBlock && same (d .rngkey) zeroBlock))
-        (other-mark place mark d rngMark (λ e. rng (sym e))) ∙ m .at-rest;
+    plain-fits = plain-still place mark d (m .plain-fits) plain;
+    at-rest = rests-still place mark d (m .at-rest) rng;
   }
 
 -- ---- one slot put anew, where all else is as it must be

@@ -1,7 +1,7 @@
 -- What LOAD_KEY does to a made device.
 -- Assumes nothing.
 use mathlib.Core.Path.{_≡_, refl, sym, ap, ap₂, _∙_, subst}
-use mathlib.Core.Bool.{Bool, true, false, not, cond, _&&_, _||_, or-true}
+use mathlib.Core.Bool.{Bool, true, false, not, cond, _||_, or-true}
 use mathlib.Core.List.{List}
 use mathlib.Core.Logic.{inl, ⊎-elim}
 use Prim.Native.Nat.{ℕ, _≤_, _<_}
@@ -12,12 +12,10 @@ use lib.Dec.{eqb, leb, ltb}
 use lib.ListN.{length, replicate}
 use Rattle.laws.specs.Lengths.{rightLengths}
 use Rattle.laws.specs.Ranges.{within, rowOf}
-use Rattle.laws.specs.Same.{same}
 use Rattle.laws.proofs.And.{and-twice}
 use Rattle.laws.proofs.Lengths.{each-right}
 use Rattle.aes.specs.State.{Bytes, Block}
 use Rattle.aes.proofs.Bytes.{tested-bytes}
-use Rattle.modes.specs.Blocks.{zeroBlock}
 use Rattle.message.specs.Building.{uidOf, targetOf, authorityOf, Carried}
 use Rattle.message.specs.FirstBlock.{maxCounter}
 use Rattle.message.specs.Messages.{sent, build}
@@ -27,13 +25,13 @@ use Rattle.message.proofs.Building.{opens}
 use Rattle.message.proofs.Slots.{pair-slots, counter-1-13}
 use Rattle.device.specs.Account.{answerBy}
 use Rattle.device.specs.Made.{isMark, slotFine, Sound}
-use Rattle.device.specs.Record.{secretKey, ramKey, off, isOn, rngMark, plainMark, markAt, isMarked, isEmpty, keyAt, counterAt, slotAt, setMark, withSlot, besideSlots, Shaped}
+use Rattle.device.specs.Record.{secretKey, ramKey, off, isOn, plainMark, markAt, isMarked, isEmpty, keyAt, counterAt, slotAt, setMark, withSlot, besideSlots, Shaped}
 use Rattle.device.specs.Rules.{kept}
 use Rattle.device.specs.declared.Device.{Device}
 use Rattle.device.specs.declared.Slot.{Slot}
 use Rattle.device.proofs.Effects.{Effective}
-use Rattle.device.proofs.Made.{PlainFits, facts, mark-fits, put-sound, empty-elsewhere}
-use Rattle.device.proofs.Marks.{that-mark, other-mark, mark-shape}
+use Rattle.device.proofs.Made.{PlainFits, facts, rests-still, mark-fits, put-sound, empty-elsewhere}
+use Rattle.device.proofs.Marks.{that-mark, mark-shape}
 use Rattle.device.proofs.Record.{key-block}
 use Rattle.device.proofs.Slots.{put-fits, that-slot, other-slot}
 use Rattle.load.specs.Load.{fiveLengths, pairChecks, openedAnswer, loadChecks, openedBy, loadKey}
@@ -134,8 +132,7 @@ module _ (d : Device) (sound : Sound d) (t c f : ℕ) (key : List ℕ) (high : t
       let m = facts d (sound .1) in
       let mark = plain-is-mark t (markAt d plainMark) (m .fits .all-marks plainMark (omega arith)) in
       let elsewhere = empty-elsewhere t slot marked shaped high (block .long) secretKey (λ e. omega (arith, low, e)) in
-      let rest = ap (λ (b : Bool). b || (same (d .state) zeroBlock && same (d .rngkey) zeroBlock))
-      (other-mark plainMark (plainAfter t (markAt d plainMark)) d rngMark (λ z. omega (arith, z))) ∙ m .at-rest in
+      let rest = rests-still plainMark (plainAfter t (markAt d plainMark)) d (m .at-rest) (λ z. omega (arith, z)) in
       put-sound t slot marked shaped high (block .long) (block .small)
       (mark-fits plainMark (plainAfter t (markAt d plainMark)) d (sound .0) (omega arith) mark (m .fits) (λ z. omega (arith, z)))
       (stored-fine t c f key h) (ap not elsewhere ∙ m .secret) plain-fits rest
