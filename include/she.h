@@ -33,7 +33,7 @@ enum she_answer {
     SHE_KEY_EMPTY = 4,           /* the slot is empty */
     SHE_NO_SECURE_BOOT = 5,      /* not given yet */
     SHE_KEY_WRITE_PROTECTED = 6, /* the target has WRITE set */
-    SHE_KEY_UPDATE_ERROR = 7,    /* the key message is refused */
+    SHE_KEY_UPDATE_ERROR = 7,    /* the key message is refused: she_load_key has the reasons */
     SHE_RNG_SEED = 8,            /* RND or EXTEND_SEED before INIT_RNG */
     SHE_NO_DEBUGGING = 9,        /* not given yet */
     SHE_BUSY = 10,               /* not given yet */
@@ -149,7 +149,8 @@ uint8_t she_write_proof(const uint8_t *uid, she_length uid_len, uint32_t target,
 /* ---- the device. Every command answers 12 to a device that isn't made and to a wrong length, and then what is named beside it */
 
 /* Makes a device anew, whatever the record held: a UID of 15 bytes that aren't all zero, a SECRET_KEY and a seed of 16. A
- * refusal (12) leaves the record as it was. */
+ * refusal (12) leaves the record as it was. Made over a device in use, it empties every slot but SECRET_KEY and starts all counters
+ * at 0 again: old key messages, which the counters kept out, can be taken once more. */
 uint8_t she_make(struct she_device *device, const uint8_t *uid, she_length uid_len,
                  const uint8_t *secret_key, she_length secret_key_len, const uint8_t *seed, she_length seed_len);
 
@@ -176,13 +177,17 @@ uint8_t she_generate_mac(struct she_device *device, uint32_t slot, uint64_t bits
                          uint8_t *mac, she_length mac_len);
 
 /* Whether a MAC of 16 bytes is that of a message, in its first mac_bits bits (0: all 128; up to 127), with the key of such a slot
- * or of BOOT_MAC_KEY. *verdict becomes 1 for yes, and 0 for no and for any refusal. Answers: 3, 4, 2. */
+ * or of BOOT_MAC_KEY. *verdict becomes 1 for yes, and 0 for no and for any refusal; the answer to a no is 0 too, as the question
+ * was answered. (VERIFICATION_STATUS of the SHE specification is the other way round: 0 there is yes.) Answers: 3, 4, 2. */
 uint8_t she_verify_mac(struct she_device *device, uint32_t slot, uint64_t bits, const uint8_t *message, she_length message_len,
                        const uint8_t *mac, she_length mac_len, uint32_t mac_bits, uint8_t *verdict);
 
 /* Takes a key message: M1 (16 bytes), M2 (32) and M3 (16) in; the proof for the sender, M4 (32) and M5 (16), out. Answers: 3 for a
  * pair that isn't allowed, 6 for a target with WRITE set, 4 and 2 for an authority that is empty (and not the target itself) or
- * locked, 7 for a message that is forged, for another board, or not newer. */
+ * locked, whatever the target. Then 7, in this order: M3 is not the MAC of M1 and M2 under the authority's key (a byte was changed,
+ * or the key is another); the UID is neither the board's nor all zero, or it is all zero and the target has WILDCARD set; the bits
+ * of M2 after the flags are not all zero; the counter is not greater than the target's. RAM_KEY takes the zero UID and any
+ * counter. */
 uint8_t she_load_key(struct she_device *device, const uint8_t *m1, she_length m1_len, const uint8_t *m2, she_length m2_len,
                      const uint8_t *m3, she_length m3_len, uint8_t *m4, she_length m4_len, uint8_t *m5, she_length m5_len);
 

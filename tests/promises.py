@@ -2,19 +2,20 @@
 """promises.py: holds docs/PROMISES.md and docs/DEMANDS.md to the crates.
 
 Of every function that another crate or C can call: it has a row in the table of promises, its contract has no `requires`, the
-definition that its contract equates the outcome with is the one that the row names, in the file that the row names, and at least
-two wrong programs are named. Every one that the table names is an edit that is there, and every edit that is there is named.
-Every theorem that a table names is in its file. The accounts in the table of crate `demands` are those that the commands promise
-to perform, by value and in place, so that a theorem about the calls is one about the code, and about all of it. And include/she.h
+definition that its contract equates the outcome with is the one that the row names, in the file that the row names, the law is
+that of the contract's shape, and at least two wrong programs are named. Every one that the table names is an edit that is there,
+where the table says, and every edit that is there is named. Every theorem that a table names is in its file. Each row of the table
+of accounts in crate `demands` is what the routine of that call promises to perform, by value and in place, word for word and with
+the arguments in their order, so that a theorem about the calls is one about the code, and about all of it. And include/she.h
 declares what crate `she` exports, and nothing else.
 
 Writes each fault that it finds, and how much it looked at. The status is 0 only where there is no fault.
 """
-import pathlib
 import re
 import sys
 
-ROOT = pathlib.Path(__file__).resolve().parent.parent
+from edits import ROOT, all_edits
+
 CRATES = ROOT / "crates"
 faults = []
 
@@ -76,14 +77,38 @@ def places(cell, what):
     return names
 
 
+def law_of(head):
+    """the law that two outcomes which meet the promise are equal, by the shape of the promise"""
+    for shape in ("outcome", "messages", "proof"):
+        if f"⌜ {shape} " in head:
+            return f"{shape}-settled"
+    if ".answer ⌝" in head and ".output ⌝" in head:
+        return "buffer-settled"
+    return "settled"
+
+
+def tried_where(cell, crate):
+    """each wrong program of a cell with its crate, that of the row unless the cell names another, and the word before it"""
+    where = ""
+    for word, name, other in re.findall(r"(gate|shams)|`([^`]+)`(?:, of crate (\w+))?", cell):
+        where = word or where
+        if name:
+            yield (other or crate, name), where
+
+
 def hold_promises(routines):
     page = ROOT / "docs" / "PROMISES.md"
-    told, wrong = {}, {}
-    for routine, _, definition, _, tried in rows_under(page, "routine"):
+    edits = {(edit.crate, edit.name): "gate" if edit.is_of_the_gate else "shams" for edit in all_edits()}
+    told, wrong, laws = {}, {}, {}
+    for routine, _, definition, law, _, tried in rows_under(page, "routine"):
         if routine:
             crate, _, name = quoted(routine)[0].partition("(")[0].rpartition("::")
-            told[crate or "bench", name] = definition
-        wrong.setdefault((crate or "bench", name), set()).update(quoted(tried))
+            crate = crate or "bench"
+            told[crate, name] = definition
+            laws[crate, name] = quoted(law)
+        for program, where in tried_where(tried, crate):
+            wrong.setdefault((crate, name), set()).add(program)
+            check(edits.get(program) == where, f"PROMISES.md: {'/'.join(program)} is not a wrong program of the {where or 'page'}")
     for (crate, name), programs in wrong.items():
         check(len(programs) > 1, f"{crate}::{name}: fewer than two wrong programs that its promise excludes")
     named = set().union(*wrong.values())
@@ -92,6 +117,9 @@ def hold_promises(routines):
         check("requires" not in head, f"{crate}::{name} has a precondition")
         promised = re.findall(r"≡ (?:perform )?\(?([^\s()]+)", head)
         check(promised, f"{crate}::{name} promises no equation")
+        for lent in re.findall(r"(\w+): &mut ", head):
+            check(f"({lent} .exit)" in head, f"{crate}::{name} promises nothing of what {lent} holds at exit")
+        check(laws.get((crate, name)) == [law_of(head)], f"{crate}::{name} is settled by {law_of(head)}, and its row names another law")
         definition = told.get((crate, name), "")
         row = quoted(definition)[:1]
         check(promised[:1] == row, f"{crate}::{name} promises {promised[:1]}, and its row has {row}")
@@ -99,17 +127,16 @@ def hold_promises(routines):
             places(definition, f"{crate}::{name}")
     for crate, name in told.keys() - routines.keys():
         check(False, f"PROMISES.md has a row for {crate}::{name}, which is not there")
-    edits = {edit.stem for edit in [*CRATES.glob("*/must-fail/*.edit"), *ROOT.glob("tests/shams/*/*.edit")]}
-    prose = set(quoted(page.read_text()))
-    for edit in edits - named - prose:
-        check(False, f"the wrong program {edit} is not named in PROMISES.md")
-    for name in named - edits:
-        check("_" not in name, f"PROMISES.md names the wrong program {name}, which is not there")
+    # some exclude a wrong definition and not a wrong routine, and are named beside the table
+    prose = {name for line in page.read_text().split("\n") if len(cells(line)) != 6 for name in quoted(line)}
+    for edit in edits.keys() - named:
+        check(edit[1] in prose, f"the wrong program {'/'.join(edit)} is not named in PROMISES.md")
     return len(edits)
 
 
 # the tables of theorems: the page, the first heading, and the column of the names; the files stand in the last column
-THEOREMS = (("PROMISES.md", "theorem", 0), ("DEMANDS.md", "words", 1), ("DEMANDS.md", "sham", 1), ("DEMANDS.md", "witness", 1))
+THEOREMS = (("PROMISES.md", "law", 0), ("PROMISES.md", "theorem", 0), ("DEMANDS.md", "words", 1), ("DEMANDS.md", "sham", 1),
+            ("DEMANDS.md", "witness", 1))
 
 
 def hold_theorems():
@@ -122,19 +149,74 @@ def hold_theorems():
     return count
 
 
+def parameters_of(head):
+    """the parameters of a routine in their order: name -> type"""
+    return dict(re.findall(r"(\w+): ([^,]+?),?\s*(?=\w+: |\)|$)", head[head.index("(") + 1:head.index(") ->")]))
+
+
+def listed(parts):
+    return "(" + " ∷ ".join([*parts, "[]"]) + ")" if parts else "[]"
+
+
+def homes(text):
+    """where a file takes its names from: name -> module, that of a crate's own definitions under the name that others use"""
+    found = {}
+    for module, names in re.findall(r"^(?:ghost )?use ([^{\s]+)\.\{(.*)\};?$", text, re.M):
+        found.update({name: module.replace("·specs.", ".") for name in names.split(", ")})
+    found.update({f"{short}.": module for module, short in re.findall(r"^use (\S+) as (\w+)$", text, re.M)})
+    return found
+
+
+def contract_of(definition, parameters, is_in_place, returned):
+    """what the routine of a call must promise: the outcome, with every lent buffer in its order, is what performing that account
+    leaves, with the parameters in their order"""
+    lent = [name for name, kind in parameters.items() if kind == "&mut [u8]"]
+    through = [name for name, kind in parameters.items() if kind == "&mut u8"]
+    given = [name if kind[0] != "&" else f"(now ({name} .entry))" for name, kind in parameters.items()
+             if name != "device" and name not in through]
+    value = {"Verdict": "(r .verdict)", "Status": "(r .status)"}.get(returned, "0")
+    if through:
+        value = f"(now ({through[0]} .exit))"
+    answer, before = ("r (now (device .exit))", "(now (device .entry))") if is_in_place else ("(r .answer) (r .device)", "device")
+    account = f"({' '.join([definition, *given])})" if given or " " in definition else definition
+    return f"outcome {answer} {value} {listed([f'now ({name} .exit)' for name in lent])} ≡ perform {account} {before}"
+
+
 def hold_calls(routines):
-    """the table of accounts and the routines that promise an outcome have the same definitions, by value and in place; making
-    alone is no call"""
-    calls = (CRATES / "demands/specs/Calls.antt").read_text()
-    accounts = set(re.findall(r"^account n .* = (?:commands\.)?(\w+)", calls, re.M))
-    for crates, making in ((("commands", "load"), "make"), (("she",), "makeAnew")):
-        heads = [head for (crate, _), head in routines.items() if crate in crates]
-        promised = {name for head in heads for name in re.findall(r"outcome .* ≡ (?:perform )?\(?(\w+)", head)}
-        for definition in (accounts | {making}) - promised:
-            check(False, f"no routine of {', '.join(crates)} promises {definition}")
-        for definition in promised - accounts - {making}:
-            check(False, f"a routine of {', '.join(crates)} promises {definition}, which is the account of no call")
-    return len(accounts)
+    """Row by row of the table of accounts: the constructor of the call, the routine of that name by value and the one in place, and
+    the definition that the row names and both routines promise to perform, with the arguments in one order. Making alone is no
+    call, and promises an outcome too."""
+    text = (CRATES / "demands/specs/Calls.antt").read_text()
+    declared = {}
+    for name, given in re.findall(r"^  ([\w-]+) : (.*)Call$", text, re.M):
+        declared[name] = " ".join(re.findall(r"\(([^:]*) :", given)).split()
+    rows = re.findall(r"^account n \(?([\w-]+)([^)=]*)\)? = (\w+\.)?(\w+)(.*)$", text, re.M)
+    check([row[0] for row in rows] == list(declared), "the table of accounts has other calls than the type, or another order")
+    named = {"commands": set(), "load": set(), "she": set()}
+    for call, pattern, short, definition, given in rows:
+        counted = given.split()[:1] == ["n"]
+        check(pattern.split() == declared[call] == given.split()[counted:], f"the account of {call} has its arguments in another order")
+        name = call.replace("-", "_")
+        places = [(crate, routine) for crate, routine in routines if routine in (name, "she_" + name) and crate in named]
+        check([crate == "she" for crate, _ in places] == [False, True], f"{call} is not one routine by value and one in place: {places}")
+        for crate, routine in places:
+            named[crate].add(routine)
+            head = routines[crate, routine]
+            home = homes((CRATES / crate / "src" / "lib.rt").read_text()).get(definition)
+            check(home == homes(text).get(short or definition), f"{crate}::{routine} has its {definition} from {home}, and {call} another")
+            parameters = parameters_of(head)
+            taken = [n for n, kind in parameters.items() if n != "device" and kind != "&mut u8"]
+            # the type calls the room for M1 to M5 b1 to b5
+            check(taken == [re.sub(r"^b(?=\d)", "m", n) for n in declared[call]], f"{crate}::{routine} takes other things than {call}")
+            promise = re.findall(r"ensures \{ λ r\. ⌜ (.*) ⌝ \}", head)
+            returned = re.search(r"\) -> (\w+)", head)[1]
+            wanted = contract_of(definition + " flagCount" * counted, parameters, crate == "she", returned)
+            check(promise == [wanted], f"{crate}::{routine} promises {promise}, and by its call {wanted}")
+    for crate, names in named.items():
+        promising = {name for (c, name), head in routines.items() if c == crate and "⌜ outcome " in head}
+        others = promising - names - {"make", "she_make"}
+        check(not others, f"routines of {crate} promise an outcome and are no call: {others}")
+    return len(rows)
 
 
 def hold_header(routines):

@@ -322,7 +322,7 @@ class Device:
             and self.made == 1
             and self.uid != bytes(15)
             and not self.slots[SECRET_KEY].empty
-            and all(slot.counter <= 268435455 for slot in self.slots)
+            and all(slot.counter <= (268435455 if 1 <= n <= 13 else 0) for n, slot in enumerate(self.slots))
             and not any(slot.flags & WITHOUT.get(n, set(FLAGS)) for n, slot in enumerate(self.slots))
             and all(slot == empty_slot() for slot in self.slots if slot.empty)
             and not (self.slots[RAM_KEY].empty and self.plain)

@@ -1,7 +1,7 @@
 // What every layer above the engine shares: the numbers of the answers, and texts read and compared whatever their lengths are.
 ghost use mathlib.Core.Path.{_≡_};
 ghost use Rattle.laws.specs.Same.{same};
-ghost use Rattle.aes.specs.State.{byte};
+ghost use Rattle.aes.specs.State.{byte, Bytes};
 ghost use Rattle.basics.specs.Bytes.{blockAt, uidFrom};
 
 // ---- numbers of the answers
@@ -33,9 +33,11 @@ pub fn byte_at(text: &[u8], i: usize) -> u8
     if i < text.len() { text[i] } else { 0 }
 }
 
-// A block of a text by its number, filled up with zeros.
+// A block of a text by its number, filled up with zeros. That whatever can be lent holds bytes, as theorems ask of a text, is
+// promised here for all of them.
 pub fn block_at(text: &[u8], number: u8) -> [u8; 16]
     ensures { λ r. ⌜ r ≡ blockAt (now (text .entry)) number ⌝ }
+    ensures { λ _. ⌜ Bytes (now (text .entry)) ⌝ }
 {
     let at = 16 * (number as usize);
     let mut block = [0u8; 16];

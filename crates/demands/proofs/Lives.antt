@@ -22,21 +22,23 @@ use Rattle.message.specs.Writer.{Messages, fullForm, proofForm}
 use Rattle.message.proofs.Building.{m1-long, uid-of-m1, target-of-m1, authority-of-m1, m2-text, m3-block}
 use Rattle.message.proofs.Slots.{kept-0, kept-14, pair-slots}
 use Rattle.message.proofs.Written.{no-faults, is-written}
-use Rattle.device.specs.Made.{Sound}
+use Rattle.device.specs.Made.{made as counts-as-made, Sound}
 use Rattle.device.specs.Outcome.{Outcome, done}
 use Rattle.device.specs.Account.{success}
 use Rattle.device.specs.Record.{secretKey, ramKey, off, plainMark, debuggerMark, markAt, isMarked, keyAt, flagsAt, slotAt}
-use Rattle.device.specs.Rules.{hasFlag, locked}
+use Rattle.device.specs.Rules.{hasFlag, locked, status}
+use Rattle.device.proofs.Account.{then-own}
 use Rattle.device.proofs.Made.{Made, facts, secret-present, flagless}
 use Rattle.device.proofs.Record.{key-block}
 use Rattle.device.specs.declared.Device.{Device}
 use Rattle.device.specs.declared.Slot.{Slot}
+use Rattle.commands.specs.Commands.{getStatus}
 use Rattle.load.specs.Export.{exported, exportRamKey}
 use Rattle.load.specs.Load.{fiveLengths, keyLoaded}
 use Rattle.load.specs.Rules.{authorityKey, isForUs, plainAfter, counterRises, asKept}
 use Rattle.load.proofs.Exporting.{ram-by-secret}
 use Rattle.load.proofs.Effects.{authority-block}
-use Rattle.demands.specs.Calls.{Call, load-key, export-ram-key, account, Machine, step}
+use Rattle.demands.specs.Calls.{Call, load-key, export-ram-key, get-status, account, Machine, step}
 use Rattle.demands.specs.Demand3.{Rules, Loads, Demand3}
 use Rattle.demands.specs.Liveness.{Liveness}
 use Rattle.demands.specs.Runs.{run, after, InBytes}
@@ -199,6 +201,11 @@ module _ (n : ℕ) (few : n ≤ 100) (d : Device) (sound : Sound d) (calls : Lis
               ∙ getD-set-same (e .marks) plainMark off 0 (omega (arith, sound-e .0 .all-marks)),
         )
 
+-- ---- the status: no check but the first two
+given : (n : ℕ) (d : Device) → counts-as-made d ≡ true → step n d get-status ≡ done d (status d) []
+unfolding getStatus
+given n d is-made = step-done n d get-status (then-own d true [] is-made refl)
+
 pub lives : Liveness (step flagCount)
 lives = record {
   written-loads = λ d uid key a1 a2 a3 b4 b5 t a c f sound small h4 h5 rules.
@@ -206,4 +213,5 @@ lives = record {
   proof-foreseen = foreseen;
   exported-loads = λ d b1 b2 b3 b4 b5 m1 m2 m3 m4 m5 c4 c5 calls sound bytes.
       comes-back flagCount (omega arith) d sound calls bytes b1 b2 b3 b4 b5 m1 m2 m3 m4 m5 c4 c5;
+  status-given = given flagCount;
 }

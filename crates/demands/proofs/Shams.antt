@@ -43,6 +43,7 @@ use Rattle.demands.specs.Shams.{RefusesEveryLoad, OneBlockForAll, Stores
 use Rattle.demands.specs.Witness.{master, door, board, keyed, fitted, plain, toKey1, key1, load, text, ciphertext}
 use Rattle.demands.proofs.Witness.{master-loads, key1-loads, plain-is-sound, plain-usable, master-block, door-carried, fitted-sound, board-sound, key1-m2, key1-m3}
 use Rattle.demands.proofs.First.{making}
+use Rattle.demands.proofs.Settled.{third-follows}
 
 text-block : Block text
 text-block = record { long = refl; small = tested-bytes text refl }
@@ -160,3 +161,7 @@ module _ (machine : Machine) (demand : Demand3 flagCount machine) where
       let same = parts-unique flagCount (omega arith) master (toKey1 .m1) (toKey1 .m2) (toKey1 .m3) master-block refl key1-m2
       (key1-m3 .long) (some .0) (some .1) 1 0 (some .2) door (some .3 .carried) door-carried (some .3 .built) refl .0 in
       false≢true (sym stale ∙ subst (λ (c : ℕ). counterRises fitted key1 c ≡ true) same (some .3 .rules .rises))
+
+-- and by the first two alone, from which the third follows: M4 and M5 are exactly the paper's
+pub not-proving-nothing-by-two : (machine : Machine) → Demand1 flagCount machine → Demand2 flagCount machine → ProvesNothing machine → ⊥
+not-proving-nothing-by-two machine one two = not-proving-nothing machine (third-follows flagCount (omega arith) machine one two)

@@ -1,6 +1,8 @@
--- What must succeed: a message that the writer writes loads where the paper's rules allow it, and an exported key loads again.
+-- What must succeed: a message that the writer writes loads where the paper's rules allow it, an exported key loads again, and the
+-- status is given.
 -- Assumes nothing.
 use mathlib.Core.Path.{_≡_}
+use mathlib.Core.Bool.{true}
 use mathlib.Core.List.{List, [], _∷_}
 use Prim.Native.Nat.{ℕ}
 use lib.ListN.{length}
@@ -8,13 +10,14 @@ use Rattle.aes.specs.State.{Bytes}
 use Rattle.basics.specs.Answers.{noError}
 use Rattle.message.specs.Flags.{flagCount}
 use Rattle.message.specs.Writer.{fullForm, proofForm}
-use Rattle.device.specs.Made.{Sound}
+use Rattle.device.specs.Made.{made, Sound}
 use Rattle.device.specs.Outcome.{done}
 use Rattle.device.specs.Record.{ramKey, off, plainMark, markAt, keyAt, slotAt}
+use Rattle.device.specs.Rules.{status}
 use Rattle.device.specs.declared.Device.{Device}
 use Rattle.load.specs.Load.{keyLoaded}
 use Rattle.load.specs.Rules.{authorityKey, asKept}
-use Rattle.demands.specs.Calls.{Call, Machine, load-key, export-ram-key}
+use Rattle.demands.specs.Calls.{Call, Machine, load-key, export-ram-key, get-status}
 use Rattle.demands.specs.Demand3.{Rules}
 use Rattle.demands.specs.Runs.{run, after, InBytes}
 
@@ -36,3 +39,5 @@ pub record Liveness (machine : Machine) : Type 0 where
       → let later = machine (after d (run machine d calls)) (load-key m1 m2 m3 c4 c5) in
       (later .answer ≡ noError) × (later .buffers ≡ m4 ∷ m5 ∷ [])
       × (slotAt (later .device) ramKey ≡ asKept ramKey 0 0 (keyAt d ramKey)) × (markAt (later .device) plainMark ≡ off)
+  -- on a made device GET_STATUS always succeeds
+  pub status-given : (d : Device) → made d ≡ true → machine d get-status ≡ done d (status d) []

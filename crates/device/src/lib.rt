@@ -4,7 +4,7 @@
 // from 0 to 255 and stay so: to read what is no slot gives zeros, and to put something there changes nothing.
 ghost use mathlib.Core.Path.{_≡_};
 ghost use Rattle.device.specs.Made.{slotFine, slotsFine, marksFine, made, unset, blank, fresh};
-ghost use Rattle.device.specs.Record.{isMarked, keyAt, counterAt, emptyAt, flagsAt, isEmpty, putSlot};
+ghost use Rattle.device.specs.Record.{isMarked, keyAt, counterAt, emptyAt, flagsAt, isEmpty, putSlot, Shaped};
 ghost use Rattle.device.specs.Rules.{hasFlag, kept, locked, isMac, usageFits, bitWhere, status};
 use message::Role;
 
@@ -203,6 +203,7 @@ fn slot_fine(number: u8, slot: Slot) -> bool
 
 fn slots_fine(device: Device) -> bool
     ensures { λ r. ⌜ r ≡ slotsFine device ⌝ }
+    ensures { λ _. ⌜ Shaped device ⌝ }
 {
     let mut fine = true;
     let mut slot: u8 = 0;
@@ -232,9 +233,11 @@ fn marks_fine(device: Device) -> bool
     fine
 }
 
-// Whether a record is one that making and the commands can have left.
+// Whether a record is one that making and the commands can have left. That every record has the shape which theorems ask of it is
+// promised here too.
 pub fn is_made(device: Device) -> bool
     ensures { λ r. ⌜ r ≡ made device ⌝ }
+    ensures { λ _. ⌜ Shaped device ⌝ }
 {
     let named = !basics::is_same(&device.uid, &[0u8; 15]);
     let at_rest = basics::is_same(&device.state, &[0u8; 16])

@@ -4,5 +4,6 @@ pub mod Cases
 pub mod FirstBlock
 pub mod FiveFlags
 pub mod Opening
+pub mod Settled
 pub mod Slots
 pub mod Written

@@ -9,5 +9,6 @@ pub mod MacSteps
 pub mod Number
 pub mod Padding
 pub mod Runs
+pub mod Settled
 pub mod Subkeys
 pub mod Texts

@@ -46,7 +46,7 @@ loop-again c = let l = c .before .before .loop in
 returns : tie.Need-returns Inv-loop μ-loop
 unfolding blockAt
 returns c = let l = c .before .loop in
-    filled _ (l .block) (l .i) 16 (l .inv .1) (search needs) (l .inv .2)
+    (filled _ (l .block) (l .i) 16 (l .inv .1) (search needs) (l .inv .2), λ k. (c .before .before .shared-slice-known .given k) .fits)
 
 pub block-at-spec : {M : Type 1} → statement M
 block-at-spec =

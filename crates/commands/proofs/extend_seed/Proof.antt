@@ -49,7 +49,7 @@ returns-2 c = let x = c .before in
     let a = o .before .before .before .before .args in
     let d = a .device in
     let right = eqb-true (length (a .entropy .now)) 16 (made-and-long d _ ((not (isMarked d rngMark), rngSeed) ∷ []) (sym (answer (o .before)) ∙ o .if1 .left) .1) in
-    let more = b .block-at .ensures ∙ block-whole (a .entropy .now) right in
+    let more = b .block-at .ensures .0 ∙ block-whole (a .entropy .now) right in
     let after : List ℕ → List ℕ → Outcome = λ seed state. outcome 0 (setRandom seed state (d .rngkey) d) 0 [] in
     ap₂ after (c .extend2 .ensures ∙ ap (extended (d .seed)) more) (x .extend .ensures ∙ ap (extended (d .state)) more)
     ∙ is-done _ _ _ (answer (o .before)) (o .if1 .left)

@@ -75,7 +75,7 @@ returns-2 c = let y = c .before .before in
     let o = i .before in
     let a = o .before .before .before .before .before .args in
     let d = a .device in
-    let challenge = b .block-at .ensures ∙ block-whole (a .challenge .now) (lengths o 0) in
+    let challenge = b .block-at .ensures .0 ∙ block-whole (a .challenge .now) (lengths o 0) in
     let mac = m .id-mac .ensures ∙ ap (idMac d) (t .join .ensures ∙ ap₂ _++_ challenge (i .identity .ensures)) in
     ap (λ (out : List ℕ). outcome 0 d 0 (out ∷ [])) (y .copy .ensures ∙ j .join2 .ensures ∙ ap₂ _++_ (i .identity .ensures) mac)
     ∙ is-done _ _ _ (answer (o .before)) (o .if1 .left)

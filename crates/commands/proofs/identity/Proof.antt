@@ -24,7 +24,7 @@ returns : tie.Need-returns
 unfolding identity
 returns c = let d = c .before .before .before .before .before .args .t1 in
     let long : length (d .uid) ≡ 15 = search needs in
-    ap₂ (λ (block : List ℕ) (last : ℕ). set block 15 last) (c .before .block-at .ensures) (c .status-of .ensures) ∙ uid-block (d .uid) (status d) long
+    ap₂ (λ (block : List ℕ) (last : ℕ). set block 15 last) (c .before .block-at .ensures .0) (c .status-of .ensures) ∙ uid-block (d .uid) (status d) long
 
 pub identity-spec : {M : Type 1} → statement M
 identity-spec = tie.close (tie.spec block-at-requires status-of-requires array-write-block returns)

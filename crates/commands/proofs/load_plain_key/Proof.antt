@@ -38,7 +38,7 @@ unfolding loadPlainKey
 returns-2 c = let o = c .before .before in
     let a = o .before .before .before .args in
     let right : eqb (length (a .key .now)) 16 ≡ true = made-and-long (a .device) _ [] (sym (o .before .other-answer .ensures) ∙ o .if1 .left) .1 in
-    let whole = c .before .block-at .ensures ∙ block-whole (a .key .now) (eqb-true _ 16 right) in
+    let whole = c .before .block-at .ensures .0 ∙ block-whole (a .key .now) (eqb-true _ 16 right) in
     let after : List ℕ → Device = λ key. putSlot ramKey (record { key = key; counter = 0; flags = 0; empty = off }) (setMark plainMark on (a .device)) in
     ap (λ (d : Device). outcome 0 d 0 []) (c .put-slot .ensures ∙ ap after whole) ∙ is-done _ _ _ (o .before .other-answer .ensures) (o .if1 .left)
 

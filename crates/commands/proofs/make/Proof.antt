@@ -54,8 +54,8 @@ returns-2 c = let o = c .before .before .before .before in
     let a = o .before .before .before .before .before .args in
     let l = lengths (a .uid .now) (length (a .secret .now)) (length (a .seed .now)) (sym (o .before .make-answer .ensures) ∙ o .if1 .left) in
     let uid = c .before .before .before .uid-from .ensures ∙ uid-whole (a .uid .now) (l 0) in
-    let secret = c .before .before .block-at .ensures ∙ block-whole (a .secret .now) (l 1) in
-    let seed = c .before .block-at2 .ensures ∙ block-whole (a .seed .now) (l 2) in
+    let secret = c .before .before .block-at .ensures .0 ∙ block-whole (a .secret .now) (l 1) in
+    let seed = c .before .block-at2 .ensures .0 ∙ block-whole (a .seed .now) (l 2) in
     ap (λ (d : Device). outcome 0 d 0 []) (c .fresh .ensures ∙ rw (uid, secret, seed)) ∙ where-done _ _ _ (λ answer. refused answer blank []) (o .before .make-answer .ensures) (o .if1 .left)
 
 pub make-spec : {M : Type 1} → statement M

@@ -11,11 +11,11 @@ is-made-requires c κs = search needs
 
 returns : tie.Need-returns
 unfolding answerBy
-returns c = simp (sym (c .before .is-made .ensures), c .if1 .taken)
+returns c = simp (sym (c .before .is-made .ensures .0), c .if1 .taken)
 
 returns-2 : tie.Need-returns-2
 unfolding answerBy
-returns-2 c = simp (sym (c .before .before .is-made .ensures), c .before .if1 .left, c .if2 .taken)
+returns-2 c = simp (sym (c .before .before .is-made .ensures .0), c .before .if1 .left, c .if2 .taken)
 
 has-role-requires : tie.Need-has-role-requires
 has-role-requires c κs = search needs
@@ -24,7 +24,7 @@ returns-3 : tie.Need-returns-3
 unfolding answerBy
 returns-3 c = let e2 = c .before .before in
     let e1 = e2 .before in
-    simp (sym (e1 .before .is-made .ensures), e1 .if1 .left, e2 .if2 .left, sym (c .before .has-role .ensures), c .if3 .taken)
+    simp (sym (e1 .before .is-made .ensures .0), e1 .if1 .left, e2 .if2 .left, sym (c .before .has-role .ensures), c .if3 .taken)
 
 is-empty-requires : tie.Need-is-empty-requires
 is-empty-requires c κs = search needs
@@ -34,7 +34,7 @@ unfolding answerBy
 returns-4 c = let e3 = c .before .before in
     let e2 = e3 .before .before in
     let e1 = e2 .before in
-    simp (sym (e1 .before .is-made .ensures), e1 .if1 .left, e2 .if2 .left, sym (e3 .before .has-role .ensures), e3 .if3 .left, sym (c .before .is-empty .ensures), c .if4 .taken)
+    simp (sym (e1 .before .is-made .ensures .0), e1 .if1 .left, e2 .if2 .left, sym (e3 .before .has-role .ensures), e3 .if3 .left, sym (c .before .is-empty .ensures), c .if4 .taken)
 
 is-locked-requires : tie.Need-is-locked-requires
 is-locked-requires c κs = search needs
@@ -45,7 +45,7 @@ returns-5 c = let e4 = c .before .before in
     let e3 = e4 .before .before in
     let e2 = e3 .before .before in
     let e1 = e2 .before in
-    simp (sym (e1 .before .is-made .ensures), e1 .if1 .left, e2 .if2 .left, sym (e3 .before .has-role .ensures), e3 .if3 .left, sym (e4 .before .is-empty .ensures), e4 .if4 .left, sym (c .before .is-locked .ensures), c .if5 .taken)
+    simp (sym (e1 .before .is-made .ensures .0), e1 .if1 .left, e2 .if2 .left, sym (e3 .before .has-role .ensures), e3 .if3 .left, sym (e4 .before .is-empty .ensures), e4 .if4 .left, sym (c .before .is-locked .ensures), c .if5 .taken)
 
 flags-at-requires : tie.Need-flags-at-requires
 flags-at-requires c κs = search needs
@@ -60,7 +60,7 @@ returns-6 c = let e5 = c .before .before .before in
     let e3 = e4 .before .before in
     let e2 = e3 .before .before in
     let e1 = e2 .before in
-    simp (sym (e1 .before .is-made .ensures), e1 .if1 .left, e2 .if2 .left, sym (e3 .before .has-role .ensures), e3 .if3 .left, sym (e4 .before .is-empty .ensures), e4 .if4 .left, sym (e5 .before .is-locked .ensures), e5 .if5 .left, sym (c .before .before .flags-at .ensures), sym (c .before .usage-fits .ensures), c .if6 .taken)
+    simp (sym (e1 .before .is-made .ensures .0), e1 .if1 .left, e2 .if2 .left, sym (e3 .before .has-role .ensures), e3 .if3 .left, sym (e4 .before .is-empty .ensures), e4 .if4 .left, sym (e5 .before .is-locked .ensures), e5 .if5 .left, sym (c .before .before .flags-at .ensures), sym (c .before .usage-fits .ensures), c .if6 .taken)
 
 returns-7 : tie.Need-returns-7
 unfolding answerBy
@@ -69,7 +69,7 @@ returns-7 c = let e5 = c .before .before .before in
     let e3 = e4 .before .before in
     let e2 = e3 .before .before in
     let e1 = e2 .before in
-    simp (sym (e1 .before .is-made .ensures), e1 .if1 .left, e2 .if2 .left, sym (e3 .before .has-role .ensures), e3 .if3 .left, sym (e4 .before .is-empty .ensures), e4 .if4 .left, sym (e5 .before .is-locked .ensures), e5 .if5 .left, sym (c .before .before .flags-at .ensures), sym (c .before .usage-fits .ensures), c .if6 .left)
+    simp (sym (e1 .before .is-made .ensures .0), e1 .if1 .left, e2 .if2 .left, sym (e3 .before .has-role .ensures), e3 .if3 .left, sym (e4 .before .is-empty .ensures), e4 .if4 .left, sym (e5 .before .is-locked .ensures), e5 .if5 .left, sym (c .before .before .flags-at .ensures), sym (c .before .usage-fits .ensures), c .if6 .left)
 
 pub use-answer-spec : {M : Type 1} → statement M
 use-answer-spec =

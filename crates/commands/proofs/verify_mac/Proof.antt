@@ -75,7 +75,7 @@ returns-2 c = let m = c .before .before .before in
     let right = passed o in
     let facts = cmac-facts 16 (a .bits) (length (a .message .now)) (length (a .mac .now)) (right .0) in
     let expected = keyed (λ n. cmacLengths n (a .bits) (length (a .message .now)) 16) (λ n. cmac (cipher n) (a .bits) (a .message .now)) (k .key-at .result) (keyAt (a .device) (a .slot)) (replicate 16 0) _ (search needs) (k .key-at .ensures) (sym (ap (cmacLengths 16 (a .bits) (length (a .message .now))) (facts .3)) ∙ right .0) (m .cmac .ensures .1) in
-    let given = c .before .block-at .ensures ∙ block-whole (a .mac .now) (facts .3) in
+    let given = c .before .block-at .ensures .0 ∙ block-whole (a .mac .now) (facts .3) in
     ap (λ (b : Bool). outcome 0 (a .device) (boolByte b) []) (c .mac-agrees .ensures ∙ ap₂ (macAgrees (a .macbits)) expected given)
     ∙ is-done _ _ _ (answer (o .before)) (o .if1 .left)
 

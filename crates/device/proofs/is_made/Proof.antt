@@ -55,7 +55,7 @@ returns c = let r = c .before in
     let k = m .before in
     let s = k .before .before .before .before .before in
     let u = s .before .before .before .before .before in
-    rw (u .is-same .ensures, s .is-same2 .ensures, k .is-same3 .ensures, m .is-marked .ensures, e .is-empty .ensures, f .slots-fine .ensures, e2 .is-empty2 .ensures, p .is-marked2 .ensures, r .is-marked3 .ensures, c .marks-fine .ensures)
+    (rw (u .is-same .ensures, s .is-same2 .ensures, k .is-same3 .ensures, m .is-marked .ensures, e .is-empty .ensures, f .slots-fine .ensures .0, e2 .is-empty2 .ensures, p .is-marked2 .ensures, r .is-marked3 .ensures, c .marks-fine .ensures), f .slots-fine .ensures .1)
 
 pub is-made-spec : {M : Type 1} → statement M
 is-made-spec =

@@ -1,6 +1,7 @@
 -- `device::slots_fine` meets its contract: the loop tests slot by slot.
 -- Assumes nothing.
 use Prim.Native.Nat.{_-_, _≤_, ℕ}
+use Rattle.aes.specs.State.{byte}
 use Rattle.device.specs.Made.{slotFine, slotsFine}
 use Rattle.device.specs.Record.{counterAt, flagsAt, emptyAt, slotAt}
 use Rattle.laws.proofs.Test.{all-none, all-more, all-made}
@@ -9,6 +10,8 @@ use borrow.Author.Needs.{needs}
 use mathlib.Core.Bool.{Bool}
 use mathlib.Core.List.{List}
 use mathlib.Core.Path.{_≡_, ap, _∙_}
+use mir.Syntax.{w8}
+use mir.Val.{Fits}
 use Rattle.device.proofs.slots_fine.Statement.{statement}
 use Rattle.device.proofs.slots_fine.Tie as tie
 
@@ -53,12 +56,24 @@ loop-again c = let b = c .before .before .before .before in
     let l = b .before .before .before .before .before .loop in
     let d = b .before .before .before .before .before .before .args .t1 in
     let now : List ℕ → Bool = λ key. slotFine (l .slot) (record { key = key; counter = counterAt d (l .slot); flags = flagsAt d (l .slot); empty = emptyAt d (l .slot) }) in
-    (search needs, all-more (λ number. slotFine number (slotAt d number)) (l .slot) (l .fine) _ (l .inv .1) (c .slot-fine .ensures ∙ ap now (b .block-at .ensures)))
+    (search needs, all-more (λ number. slotFine number (slotAt d number)) (l .slot) (l .fine) _ (l .inv .1) (c .slot-fine .ensures ∙ ap now (b .block-at .ensures .0)))
 
 returns : tie.Need-returns Inv-loop μ-loop
 unfolding slotsFine
 returns c = let l = c .before .loop in
-    all-made _ (l .slot) 15 (l .fine) (search needs) (l .inv .1)
+    let d = c .before .before .args .t1 in
+    let small : (k : ℕ) → Fits w8 (byte (d .keys) k) = λ k. search needs in (
+      all-made _ (l .slot) 15 (l .fine) (search needs) (l .inv .1),
+      record {
+        all-keys = search needs;
+        key-bytes = λ k. small k .fits;
+        all-counters = search needs;
+        all-flags = search needs;
+        all-empty = search needs;
+        uid-long = search needs;
+        all-marks = search needs;
+      },
+    )
 
 pub slots-fine-spec : {M : Type 1} → statement M
 slots-fine-spec =

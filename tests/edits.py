@@ -1,0 +1,119 @@
+#!/usr/bin/env python3
+"""edits.py: the wrong programs, and whether they still fit what they edit.
+
+A wrong program is an edit of a crate that the prover must refuse, in crates/CRATE/must-fail/ where the gate tries it, and in
+tests/shams/CRATE/ where `make shams` does. Its lines:
+
+    file: src/lib.rt     a file of the crate, for the texts after it
+    old: text            stands there exactly once
+    new: other text      and is replaced by this
+    right: other text    or, in the edit's twin, by this
+
+The twin of an edit is the same edit with a right body, which the prover must accept: so what is refused is the wrong body, and not
+a helper that promises too little or a line of a proof that no longer fits. An edit that adds a function or changes a proof
+has one. (`rt` passes over `right:`.)
+
+Run by itself, it writes each edit that no longer fits the crates, each that lacks a twin, and each fault of tests/faults.txt that
+no longer fits the second program. The status is 0 only where there is none.
+"""
+import pathlib
+import re
+import sys
+
+import faults
+
+ROOT = pathlib.Path(__file__).resolve().parent.parent
+GATE, SHAMS = "crates/*/must-fail/*.edit", "tests/shams/*/*.edit"
+
+
+class Stale(Exception):
+    """A text that should stand in a file once does not."""
+
+
+def replaced(text, old, new, where):
+    if text.count(old) != 1:
+        raise Stale(f"{where}: a text is there {text.count(old)} times: {old}")
+    return text.replace(old, new)
+
+
+def functions(text):
+    return set(re.findall(r"\bfn (\w+)\(", text))
+
+
+class Edit:
+    def __init__(self, path):
+        self.path, self.name = path, path.stem
+        self.is_of_the_gate = path.parent.name == "must-fail"
+        self.crate = path.parent.parent.name if self.is_of_the_gate else path.parent.name
+        self.changes = []   # (file, old, new, right), the last None where the twin has the new text too
+        self.strange = []   # lines that mean nothing
+        file = old = None
+        for line in path.read_text().splitlines():
+            key, _, text = re.sub(r"^new:$", "new: ", line).partition(": ")
+            if key == "file":
+                file = text
+            elif key == "old":
+                old = text
+            elif key == "new":
+                self.changes.append((file, old, text, None))
+            elif key == "right":
+                self.changes[-1] = (*self.changes[-1][:3], text)
+            elif line:
+                self.strange.append(line)
+
+    def has_twin(self):
+        return any(right is not None for *_, right in self.changes)
+
+    def helpers(self):
+        """the functions that it adds"""
+        return {name for _, old, new, _ in self.changes for name in functions(new) - functions(old)}
+
+    def needs_twin(self):
+        return bool(self.helpers()) or any(file.startswith("proofs/") for file, *_ in self.changes)
+
+    def files(self, folder, is_twin=False):
+        """what the crate in a folder has, edited: file -> its text"""
+        texts = {}
+        for file, old, new, right in self.changes:
+            text = texts.get(file) or (folder / file).read_text()
+            texts[file] = replaced(text, old, right if is_twin and right is not None else new, f"{self.path.name}, {file}")
+        return texts
+
+
+def all_edits():
+    return [Edit(path) for pattern in (GATE, SHAMS) for path in sorted(ROOT.glob(pattern))]
+
+
+def troubles(edits):
+    for edit in edits:
+        for line in edit.strange:
+            yield f"{edit.path.name} has a line that means nothing: {line}"
+        for is_twin in (False, True):
+            try:
+                edit.files(ROOT / "crates" / edit.crate, is_twin)
+            except Stale as stale:
+                yield str(stale)
+        if edit.needs_twin() and not edit.has_twin():
+            yield f"{edit.path.name} adds a function or changes a proof, and has no twin"
+        if any(right is not None and functions(right) != functions(new) for *_, new, right in edit.changes):
+            yield f"the twin of {edit.path.name} has other functions"
+    for name, file, old, _ in faults.read_faults():
+        try:
+            replaced((ROOT / "tests" / "second" / file).read_text(), old, "", f"the fault '{name}', {file}")
+        except Stale as stale:
+            yield str(stale)
+
+
+def main():
+    edits = all_edits()
+    found = sorted(set(troubles(edits)))
+    for trouble in found:
+        print(f"edits: {trouble}")
+    twins = sum(edit.has_twin() for edit in edits)
+    count = len(list(faults.read_faults()))
+    print(f"edits: {len(edits)} wrong programs, {twins} with a twin, {count} faults, {len(found)} that do not fit")
+    return 1 if found else 0
+
+
+if __name__ == "__main__":
+    sys.exit(main())
