@@ -1,5 +1,5 @@
 #!/usr/bin/env python3
-"""edits.py: the wrong programs, and whether they still fit what they edit.
+"""edits.py: the wrong programs and the faults, and whether they still fit what they edit.
 
 A wrong program is an edit of a crate that the prover must refuse, in crates/CRATE/must-fail/ where the gate tries it, and in
 tests/shams/CRATE/ where `make shams` does. Its lines:
@@ -13,14 +13,20 @@ The twin of an edit is the same edit with a right body, which the prover must ac
 a helper that promises too little or a line of a proof that no longer fits. An edit that adds a function or changes a proof
 has one. (`rt` passes over `right:`.)
 
-Run by itself, it writes each edit that no longer fits the crates, each that lacks a twin, and each fault of tests/faults.txt that
-no longer fits the second program. The status is 0 only where there is none.
+A fault of tests/faults.txt is a name, a file of tests/second/, and a text that stands there exactly once and is replaced:
+
+    == name
+    -- file
+    text
+    ++
+    other text
+
+Run by itself, it writes each edit that no longer fits the crates, each that lacks a twin, and each fault that no longer fits the
+second program. The status is 0 only where there is none.
 """
 import pathlib
 import re
 import sys
-
-import faults
 
 ROOT = pathlib.Path(__file__).resolve().parent.parent
 GATE, SHAMS = "crates/*/must-fail/*.edit", "tests/shams/*/*.edit"
@@ -84,6 +90,14 @@ def all_edits():
     return [Edit(path) for pattern in (GATE, SHAMS) for path in sorted(ROOT.glob(pattern))]
 
 
+def read_faults():
+    """name, file, text and other text of each"""
+    for part in re.split(r"^== ", (ROOT / "tests" / "faults.txt").read_text(), flags=re.M)[1:]:
+        name, file, change = part.split("\n", 2)
+        old, new = re.split(r"^\+\+\n", change, maxsplit=1, flags=re.M)
+        yield name, file.removeprefix("-- "), old.rstrip("\n"), new.rstrip("\n")
+
+
 def troubles(edits):
     for edit in edits:
         for line in edit.strange:
@@ -97,7 +111,7 @@ def troubles(edits):
             yield f"{edit.path.name} adds a function or changes a proof, and has no twin"
         if any(right is not None and functions(right) != functions(new) for *_, new, right in edit.changes):
             yield f"the twin of {edit.path.name} has other functions"
-    for name, file, old, _ in faults.read_faults():
+    for name, file, old, _ in read_faults():
         try:
             replaced((ROOT / "tests" / "second" / file).read_text(), old, "", f"the fault '{name}', {file}")
         except Stale as stale:
@@ -110,7 +124,7 @@ def main():
     for trouble in found:
         print(f"edits: {trouble}")
     twins = sum(edit.has_twin() for edit in edits)
-    count = len(list(faults.read_faults()))
+    count = len(list(read_faults()))
     print(f"edits: {len(edits)} wrong programs, {twins} with a twin, {count} faults, {len(found)} that do not fit")
     return 1 if found else 0
 

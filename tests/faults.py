@@ -5,13 +5,7 @@ Each fault of tests/faults.txt is put into a copy of the second program, and tha
 random sequences must see the difference. Writes for each fault where it was seen, and how many were not; the status is 0 only for
 none.
 
-A fault is a name, a file of tests/second/, and a text there that is replaced by another:
-
-    == name
-    -- file
-    text
-    ++
-    other text
+How a fault is written stands in tests/edits.py.
 """
 import os
 import pathlib
@@ -21,16 +15,9 @@ import subprocess
 import sys
 import tempfile
 
-ROOT = pathlib.Path(__file__).resolve().parent.parent
+from edits import ROOT, read_faults, replaced
+
 NATIVE = ROOT / "target" / "native"
-
-
-def read_faults():
-    text = (ROOT / "tests" / "faults.txt").read_text()
-    for part in re.split(r"^== ", text, flags=re.M)[1:]:
-        name, file, change = part.split("\n", 2)
-        old, new = re.split(r"^\+\+\n", change, maxsplit=1, flags=re.M)
-        yield name, file.removeprefix("-- "), old.rstrip("\n"), new.rstrip("\n")
 
 
 def run(*words):
@@ -44,10 +31,7 @@ def build(place, file, old, new):
     """the comparison with a faulty copy in the library's place, or what went wrong"""
     shutil.copytree(ROOT / "tests" / "second", place / "second")
     source = place / "second" / file
-    text = source.read_text()
-    if text.count(old) != 1:
-        return f"the text is there {text.count(old)} times"
-    source.write_text(text.replace(old, new))
+    source.write_text(replaced(source.read_text(), old, new, file))
     exports = place / "second" / "c.rs"
     exports.write_text(exports.read_text().replace("fn second_", "fn she_"))
     # a shared library keeps its own copy of Rust's, beside that in the second program

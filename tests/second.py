@@ -236,10 +236,10 @@ def packed(*fields):
     return int(string, 2).to_bytes(16, "big")
 
 
-def sealed(secret, m1, clear):
+def sealed(authkey, m1, clear):
     """M1 to M3 around any clear text."""
-    m2 = cbc_encrypt(derive(secret, 1), bytes(16), clear, clear)[1]
-    return m1, m2, cmac(derive(secret, 2), 384, m1 + m2, bytes(16))[1]
+    m2 = cbc_encrypt(derive(authkey, 1), bytes(16), clear, clear)[1]
+    return m1, m2, cmac(derive(authkey, 2), 384, m1 + m2, bytes(16))[1]
 
 
 def refusal(lengths, right, counter, flags, target, authority):
@@ -248,12 +248,12 @@ def refusal(lengths, right, counter, flags, target, authority):
     return 0 if authority in AUTHORITIES.get(target, ()) else 3
 
 
-def write_key(uid, target, authority, secret, counter, flags, key, *buffers):
-    lengths = [len(data) for data in (uid, secret, key, *buffers)]
+def write_key(uid, target, authority, authkey, counter, flags, key, *buffers):
+    lengths = [len(data) for data in (uid, authkey, key, *buffers)]
     answer = refusal(lengths, [15, 16, 16, 16, 32, 16], counter, flags, target, authority)
     if answer:
         return answer, buffers
-    return 0, sealed(secret, uid + bytes([16 * target + authority]), packed((counter, 28), (flags, 5)) + key)
+    return 0, sealed(authkey, uid + bytes([16 * target + authority]), packed((counter, 28), (flags, 5)) + key)
 
 
 def write_proof(uid, target, authority, counter, key, *buffers):
@@ -265,13 +265,13 @@ def write_proof(uid, target, authority, counter, key, *buffers):
     return 0, (m4, cmac(derive(key, 2), 256, m4, bytes(16))[1])
 
 
-def open_messages(secret, m1, m2, m3):
+def open_messages(authkey, m1, m2, m3):
     """Whether M3 is right, and then counter, flags, whether the filler is zero, and the key."""
-    if [len(data) for data in (secret, m1, m2, m3)] != [16, 16, 32, 16]:
+    if [len(data) for data in (authkey, m1, m2, m3)] != [16, 16, 32, 16]:
         return 0, 0, 0, 0, bytes(16)
-    if cmac(derive(secret, 2), 384, m1 + m2, bytes(16))[1] != m3:
+    if cmac(derive(authkey, 2), 384, m1 + m2, bytes(16))[1] != m3:
         return 0, 0, 0, 0, bytes(16)
-    clear = cbc_decrypt(derive(secret, 1), bytes(16), m2, m2)[1]
+    clear = cbc_decrypt(derive(authkey, 1), bytes(16), m2, m2)[1]
     string = f"{integer(clear[:16]):0128b}"
     return 1, int(string[:28], 2), int(string[28:33], 2), int("1" not in string[33:]), clear[16:]
 

@@ -21,9 +21,11 @@ import time
 from edits import ROOT, all_edits
 
 WORK = ROOT / "target" / "shams"
-# what the prover says where a name, a step of the walk or a part of a proof is not there, so that it has not come to any fact; the
-# facts of a function are declarations of their own, and what is left to its `-spec` is to list them
-BY_NAME = re.compile(r"is not in scope|that can be named from here|has no field|already a name|is applied to an argument|^`\S+-spec`: ")
+# what the prover says where a name, a step of the walk or a part of a proof is not there, or a line cannot be read, so that it has not
+# come to any fact. The facts of a function are declarations of their own, under their names: what is left to its `-spec` is to list
+# them, its `ensures` are only stated, and what is not in a declaration is not about any
+BY_NAME = re.compile(r"is not in scope|that can be named from here|has no field|already a name|is applied to an argument"
+                     r"|^`(?:\S+-spec|ensures\S*|requires\S*)`: |^(?!`|expected `\S+-spec` in )")
 # and where something that it needs was refused before
 FOLLOWS = re.compile(r"was not admitted|which is not proved")
 
@@ -108,9 +110,12 @@ def chosen(words):
     wanted = words[is_gate:]
     jobs = collections.defaultdict(list)
     for edit in all_edits():
-        if (edit.is_of_the_gate or not is_gate) and (not wanted or edit.crate in wanted):
-            jobs[edit.crate] += [(edit, is_twin) for is_twin in (False, True) if (edit.has_twin() if is_twin else not is_gate)]
-    jobs = {crate: tries for crate, tries in jobs.items() if tries}
+        if wanted and edit.crate not in wanted:
+            continue
+        if not is_gate:
+            jobs[edit.crate].append((edit, False))
+        if edit.has_twin() and (edit.is_of_the_gate or not is_gate):
+            jobs[edit.crate].append((edit, True))
     if not jobs or set(wanted) - set(jobs):
         sys.exit(f"shams: nothing to try for one of: {' '.join(words)}")
     return jobs

@@ -24,7 +24,7 @@ use Rattle.device.specs.declared.Device.{Device}
 use Rattle.device.specs.declared.Slot.{Slot}
 use Rattle.device.proofs.Account.{made-and-long}
 use Rattle.device.proofs.Effects.{Effective, loads-nothing, sets-mark}
-use Rattle.device.proofs.Made.{Fits, AtRest, Made, facts, is-made, plain-still, rests-still, mark-fits, put-sound, empty-there, empty-elsewhere}
+use Rattle.device.proofs.Made.{PartsFit, AtRest, Made, facts, is-made, plain-still, rests-still, mark-fits, put-sound, empty-there, empty-elsewhere}
 use Rattle.device.proofs.Marks.{that-mark, other-mark, mark-shape}
 use Rattle.device.proofs.Slots.{put-fits, other-slot}
 use Rattle.commands.specs.Commands.{reset, attachDebugger, loadPlainKey, initRng, extendSeed, rnd}
@@ -97,7 +97,7 @@ module _ (e : Device) (key : List ℕ) (empty : ℕ) (shaped : Shaped e) (block 
   ram-uid : putSlot ramKey ram e .uid ≡ e .uid
   ram-uid = ap (λ (x : Device). x .uid) (put-fits ramKey ram e (omega arith))
 
-  ram-sound : Fits e → not (isEmpty e secretKey) ≡ true → AtRest e → slotFine ramKey ram ≡ true
+  ram-sound : PartsFit e → not (isEmpty e secretKey) ≡ true → AtRest e → slotFine ramKey ram ≡ true
       → (not (isOn empty) || not (isMarked e plainMark)) ≡ true → Sound (putSlot ramKey ram e)
   ram-sound fits secret rest fine plain =
       let last : 14 ≤ 14 = omega arith in
@@ -120,7 +120,7 @@ module _ (d : Device) (sound : Sound d) where
   quiet-shape : Shaped quiet
   quiet-shape = mark-shape debuggerMark off (setMark plainMark off cleared) (mark-shape plainMark off cleared cleared-shape)
 
-  quiet-fits : Fits quiet
+  quiet-fits : PartsFit quiet
   quiet-fits =
       mark-fits debuggerMark off (setMark plainMark off cleared) (mark-shape plainMark off cleared cleared-shape) (omega arith) refl
       (mark-fits plainMark off cleared cleared-shape (omega arith) refl

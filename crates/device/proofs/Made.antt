@@ -37,8 +37,8 @@ pub record Fit (uid : List ℕ) (slot : ℕ → Slot) (marks : List ℕ) : Type 
   pub slots : (s : ℕ) → s < 15 → slotFine s (slot s) ≡ true
   pub all-marks : (place : ℕ) → place < markCount → isMark (byte marks place) ≡ true
 
-abbrev pub Fits : Device → Type 0
-Fits d = Fit (d .uid) (slotAt d) (d .marks)
+abbrev pub PartsFit : Device → Type 0
+PartsFit d = Fit (d .uid) (slotAt d) (d .marks)
 
 -- and what ties a mark to something else
 abbrev pub PlainFits : Device → Type 0
@@ -48,7 +48,7 @@ abbrev pub AtRest : Device → Type 0
 AtRest d = (isMarked d rngMark || (same (d .state) zeroBlock && same (d .rngkey) zeroBlock)) ≡ true
 
 pub record Made (d : Device) : Type 0 where
-  pub fits : Fits d
+  pub fits : PartsFit d
   pub secret : not (isEmpty d secretKey) ≡ true
   pub plain-fits : PlainFits d
   pub at-rest : AtRest d
@@ -107,7 +107,7 @@ module _ (place mark : ℕ) (d : Device) where
 
 -- ---- a mark set anew, other than that the device is made
 module _ (place mark : ℕ) (d : Device) (shaped : Shaped d) (room : place < markCount) (h : isMark mark ≡ true) where
-  pub mark-fits : Fits d → (place ≡ madeMark → ⊥) → Fits (setMark place mark d)
+  pub mark-fits : PartsFit d → (place ≡ madeMark → ⊥) → PartsFit (setMark place mark d)
   mark-fits f other = record {
     mark = other-mark place mark d madeMark (λ e. other (sym e)) ∙ f .mark;
     named = f .named;
@@ -139,7 +139,7 @@ module _ (s : ℕ) (new : Slot) (d : Device) (shaped : Shaped d) (fits : s ≤ 1
   pub empty-elsewhere : (k : ℕ) → (k ≡ s → ⊥) → isEmpty (withSlot s new d) k ≡ isEmpty d k
   empty-elsewhere k e = ap (λ (x : Slot). isOn (x .empty)) (other-slot s new d shaped fits long k e)
 
-  slot-fits : Fits d → slotFine s new ≡ true → Fits (withSlot s new d)
+  slot-fits : PartsFit d → slotFine s new ≡ true → PartsFit (withSlot s new d)
   slot-fits f fine = record {
     mark = f .mark;
     named = f .named;
@@ -152,7 +152,7 @@ module _ (s : ℕ) (new : Slot) (d : Device) (shaped : Shaped d) (fits : s ≤ 1
           subst (λ (n : ℕ). slotFine n (slotAt (withSlot s new d) n) ≡ true) (sym e) (ap (slotFine s) (that-slot s new d shaped fits long) ∙ fine)
       each k l (no e) = ap (slotFine k) (other-slot s new d shaped fits long k e) ∙ f .slots k l
 
-  pub put-sound : Bytes (new .key) → Fits d → slotFine s new ≡ true → not (isEmpty (withSlot s new d) secretKey) ≡ true
+  pub put-sound : Bytes (new .key) → PartsFit d → slotFine s new ≡ true → not (isEmpty (withSlot s new d) secretKey) ≡ true
       → PlainFits (withSlot s new d) → AtRest d → Sound (putSlot s new d)
   put-sound small f fine secret plain rest =
       let put = put-fits s new d fits in
@@ -180,7 +180,7 @@ module _ (uid seed : List ℕ) (long : length uid ≡ 15) where
   unfolding all
   unkeyed-marks = refl
 
-  unkeyed-fits : same uid zeroUid ≡ false → Fits (unkeyed uid seed)
+  unkeyed-fits : same uid zeroUid ≡ false → PartsFit (unkeyed uid seed)
   unkeyed-fits other = record {
     mark = refl;
     named = ap not other;
