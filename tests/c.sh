@@ -67,7 +67,7 @@ if setarch "$(uname -m)" -R true 2>/dev/null; then
     checked="$checked setarch $(uname -m) -R"
 fi
 
-run build sh tests/build-c.sh
+run build sh tools/build-c.sh
 run header header
 run symbols symbols
 run readme readme
@@ -75,13 +75,13 @@ run demo demo $limit "$out/yard"
 run demo-checked demo $checked "$out/yard-checked"
 run demo-valgrind demo $memory "$out/yard"
 run openssl $limit "$out/openssl" 1
-run vectors $limit "$out/together" vectors
-run sweeps $limit "$out/together" sweeps 1
-run sequences $limit "$out/together" 1 20000
-run sequences-checked $checked "$out/together-checked" --exact --some 2 3000
-run sweeps-checked $checked "$out/together-checked" sweeps 2
-run vectors-valgrind $memory "$out/together" --exact vectors
-run sequences-valgrind $memory "$out/together" --exact --some 3 1500
-run shipped sh tests/shipped.sh
+run vectors $limit "$out/lockstep" vectors
+run sweeps $limit "$out/lockstep" sweeps 1
+run sequences $limit "$out/lockstep" 1 20000
+run sequences-checked $checked "$out/lockstep-checked" --exact --some 2 3000
+run sweeps-checked $checked "$out/lockstep-checked" sweeps 2
+run vectors-valgrind $memory "$out/lockstep" --exact vectors
+run sequences-valgrind $memory "$out/lockstep" --exact --some 3 1500
+run shipped sh tests/lockstep/shipped.sh
 echo "C: $passed passed, $failed failed"
 [ "$failed" -eq 0 ]

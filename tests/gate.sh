@@ -46,13 +46,13 @@ second_account() {
 
 part "the layout of the files (rt fmt)" rt fmt --check
 part "the proofs of what takes the record in place, as they are written from its source" python3 tools/in_place.py --check
-part "the wrong programs and the faults, held to what they edit" python3 tests/edits.py
+part "the wrong programs and the faults, held to what they edit" python3 tests/wrong/edits.py
 part "the pages on promises and demands, held to the crates" python3 tests/promises.py
-part "the twins of the must-fail edits" python3 tests/shams.py --gate
+part "the twins of the must-fail edits" python3 tests/wrong/shams.py --gate
 part "the library as C has it" sh tests/c.sh
-part "the comparison with the second program" python3 tests/compare.py sh tests/run-program.sh vectors
+part "the comparison with the second program" python3 tests/compare.py sh tools/run-program.sh vectors
 part "the second program's account of the cases" second_account
-part "random days of the device, on both programs" python3 tests/replay.py sh tests/run-program.sh cases
+part "random days of the device, on both programs" python3 tests/replay.py sh tools/run-program.sh cases
 
 echo "$passed passed, $failed failed"
 [ "$failed" -eq 0 ]

@@ -11,9 +11,11 @@ declares what crate `she` exports, and nothing else.
 
 Writes each fault that it finds, and how much it looked at. The status is 0 only where there is no fault.
 """
+import pathlib
 import re
 import sys
 
+sys.path.append(str(pathlib.Path(__file__).parent / "wrong"))
 from edits import ROOT, all_edits
 
 CRATES = ROOT / "crates"

@@ -1,6 +1,6 @@
 /* What was seen: how often each function gave each answer, and how often what is hard to come by came. A run in which something
  * of this is missing has tested less than it says, and fails. */
-#include "together.h"
+#include "lockstep.h"
 
 #include <inttypes.h>
 #include <stdio.h>

@@ -1,5 +1,5 @@
 /* Published vectors, through both. A row is a call, or a look at or a change of the record; the record stays from row to row. */
-#include "together.h"
+#include "lockstep.h"
 
 #include <stdio.h>
 #include <string.h>

@@ -1,10 +1,10 @@
-/* together [--exact] [--some] [--only NUMBER] SEED SEQUENCES   random sequences; 0 sequences: without end
- * together [--exact] sweeps SEED                               whole ranges, one after the other
- * together [--exact] vectors                                   published vectors
+/* lockstep [--exact] [--some] [--only NUMBER] SEED SEQUENCES   random sequences; 0 sequences: without end
+ * lockstep [--exact] sweeps SEED                               whole ranges, one after the other
+ * lockstep [--exact] vectors                                   published vectors
  *
  * --exact lends each buffer in memory of its very length, for a memory checker. --some lets a run pass in which not everything
  * was seen. --only runs one sequence, by its number. Ends with 0 if all agreed and everything was seen, and otherwise with 1. */
-#include "together.h"
+#include "lockstep.h"
 
 #include <inttypes.h>
 #include <stdio.h>
@@ -71,9 +71,9 @@ static uint64_t parse(const char *text) {
 }
 
 static void usage(void) {
-    fputs("usage: together [--exact] [--some] [--only NUMBER] SEED SEQUENCES\n"
-          "       together [--exact] sweeps SEED\n"
-          "       together [--exact] vectors\n", stderr);
+    fputs("usage: lockstep [--exact] [--some] [--only NUMBER] SEED SEQUENCES\n"
+          "       lockstep [--exact] sweeps SEED\n"
+          "       lockstep [--exact] vectors\n", stderr);
     exit(2);
 }
 

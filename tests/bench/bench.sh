@@ -2,7 +2,7 @@
 # Measures ours beside BearSSL's and libtomcrypt's, built for this machine, in one run: times, stack and size. Stdout is Markdown,
 # for docs/PERFORMANCE.md as it is. Fails where the program does, and where the library needs more than it may.
 set -eu
-cd "$(dirname "$0")/.."
+cd "$(dirname "$0")/../.."
 missing=''
 for package in gcc binutils libbearssl-dev libtomcrypt-dev; do
     dpkg -s "$package" >/dev/null 2>&1 || missing="$missing $package"
@@ -13,11 +13,11 @@ if [ -n "$missing" ]; then
     # shellcheck disable=SC2086
     apt-get install -y -qq $missing >/dev/null
 fi
-sh tests/native-archive.sh bench >&2
-sh tests/native-archive.sh she >&2
+sh tools/native-archive.sh bench >&2
+sh tools/native-archive.sh she >&2
 library=target/native/libshe.a
 tables=target/native/bench.md
-gcc -O2 -Wall -Wextra -Werror -Iinclude -o target/native/bench tests/bench.c target/native/libbench.a "$library" \
+gcc -O2 -Wall -Wextra -Werror -Iinclude -o target/native/bench tests/bench/bench.c target/native/libbench.a "$library" \
     -lbearssl -ltomcrypt
 
 fail() {

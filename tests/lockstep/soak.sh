@@ -1,8 +1,8 @@
 #!/bin/sh
 # soak.sh [SEED]: random sequences of calls to the library and to the second program, without end.
 set -eu
-cd "$(dirname "$0")/.."
+cd "$(dirname "$0")/../.."
 seed=${1:-$(date +%s)}
-sh tests/build-c.sh
+sh tools/build-c.sh
 echo "seed $seed"
-exec target/native/together "$seed" 0
+exec target/native/lockstep "$seed" 0

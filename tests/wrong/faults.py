@@ -1,11 +1,11 @@
 #!/usr/bin/env python3
 """faults.py [SEED] [SEQUENCES]: whether the comparison of the library with the second program can fail.
 
-Each fault of tests/faults.txt is put into a copy of the second program, and that copy stands in the place of the library. The
+Each fault of tests/wrong/faults.txt is put into a copy of the second program, and that copy stands in the place of the library. The
 random sequences must see the difference. Writes for each fault where it was seen, and how many were not; the status is 0 only for
 none.
 
-How a fault is written stands in tests/edits.py.
+How a fault is written stands in tests/wrong/edits.py.
 """
 import os
 import pathlib
@@ -29,7 +29,7 @@ def run(*words):
 
 def build(place, file, old, new):
     """the comparison with a faulty copy in the library's place, or what went wrong"""
-    shutil.copytree(ROOT / "tests" / "second", place / "second")
+    shutil.copytree(ROOT / "tests" / "lockstep" / "second", place / "second")
     source = place / "second" / file
     source.write_text(replaced(source.read_text(), old, new, file))
     exports = place / "second" / "c.rs"
@@ -39,9 +39,9 @@ def build(place, file, old, new):
                place / "second" / "lib.rs", "--out-dir", place)
     if made.returncode:
         return made.stderr
-    objects = sorted((ROOT / "tests" / "together").glob("*.c"))
+    objects = sorted((ROOT / "tests" / "lockstep").glob("*.c"))
     linked = run("gcc", "-std=c99", "-O2", "-Iinclude", *objects, NATIVE / "libsecond.a", f"-L{place}", "-lfaulty",
-                 f"-Wl,-rpath,{place}", "-lpthread", "-ldl", "-lm", "-o", place / "together")
+                 f"-Wl,-rpath,{place}", "-lpthread", "-ldl", "-lm", "-o", place / "lockstep")
     return linked.stderr if linked.returncode else ""
 
 
@@ -52,7 +52,7 @@ def seen(fault, seed, sequences):
         trouble = build(place, *fault[1:])
         if trouble:
             return False, f"does not build: {trouble[:300]}"
-        ran = run(place / "together", seed, sequences)
+        ran = run(place / "lockstep", seed, sequences)
         where = re.search(r"sequence (\d+), call (\d+)\n(.*)", ran.stdout)
         if ran.returncode == 1 and where:
             return True, f"sequence {where[1]}, call {where[2]}: {where[3]}"
@@ -63,7 +63,7 @@ def seen(fault, seed, sequences):
 
 def main():
     seed, sequences = (sys.argv[1:] + ["1", "3000"][len(sys.argv) - 1:])[:2]
-    built = run("sh", "tests/build-c.sh")
+    built = run("sh", "tools/build-c.sh")
     if built.returncode:
         print(built.stdout + built.stderr)
         return 1

@@ -1,6 +1,6 @@
 /* Random sequences. The record is plain data, so that what is drawn may look into it: half of the work here is to find the keys,
  * counters and identities with which a message would be accepted, and the other half is to spoil one thing or another. */
-#include "together.h"
+#include "lockstep.h"
 
 #include <string.h>
 

@@ -1,5 +1,5 @@
 /* The one place that says what the functions of she.h are. */
-#include "together.h"
+#include "lockstep.h"
 
 #include <string.h>
 

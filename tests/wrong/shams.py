@@ -2,7 +2,7 @@
 """shams.py [--gate] [CRATE..]: whether the prover refuses every wrong program for a fact, and accepts its twin.
 
 Tries the wrong programs of these crates, or of all, those of the gate among them, and the twin of each that has one; see
-tests/edits.py. With --gate, only the twins of those that the gate itself tries.
+tests/wrong/edits.py. With --gate, only the twins of those that the gate itself tries.
 
 Those of a crate are tried one after the other in a copy of the repository, over what is already proved there of the unchanged
 crate, so that only what an edit changes is checked again. The proofs of the routines that take the record in place are written

@@ -4,7 +4,7 @@
 # where they were compared with the second program's. There is no second program for x86-64 here, so that the library stands on
 # both sides. After build-c.sh.
 set -eu
-cd "$(dirname "$0")/.."
+cd "$(dirname "$0")/../.."
 out=target/native
 machine=$(uname -m)
 if [ "$machine" = x86_64 ]; then
@@ -40,17 +40,17 @@ emulated() { # NAME ARGUMENT..
 }
 
 same_digest() { # ARGUMENT..: of the comparison
-    here=$("$out/together" "$@" | sed -n 's/^digest //p')
-    there=$(emulated together "$@" | sed -n 's/^digest //p')
+    here=$("$out/lockstep" "$@" | sed -n 's/^digest //p')
+    there=$(emulated lockstep "$@" | sed -n 's/^digest //p')
     if [ -z "$here" ] || [ "$here" != "$there" ]; then
-        echo "together $*: here '$here', on x86-64 '$there'"
+        echo "lockstep $*: here '$here', on x86-64 '$there'"
         exit 1
     fi
 }
 
 sed -n 's/^uint8_t she_\([a-z0-9_]*\)(.*/#define second_\1 she_\1/p' include/she.h >"$out/one-side.h"
 program yard demo/yard.c
-program together tests/together/*.c
+program lockstep tests/lockstep/*.c
 emulated yard | cmp - demo/yard.txt
 same_digest --some 4 5000
 same_digest sweeps 1

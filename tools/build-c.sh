@@ -5,11 +5,11 @@ set -eu
 cd "$(dirname "$0")/.."
 out=target/native
 PATH=$PATH:${CARGO_HOME:-$HOME/.cargo}/bin # where rustup puts rustc
-sh tests/native-archive.sh she
+sh tools/native-archive.sh she
 warnings="-Wall -Wextra -Wpedantic -Werror"
 checkers="-g -O1 -fsanitize=address,undefined -fno-sanitize-recover=all"
-rustc --edition 2021 -O -C panic=abort --crate-type staticlib -D warnings tests/second/lib.rs -o "$out/libsecond.a"
-rustc --edition 2021 -O -D warnings tests/second/openssl.rs -o "$out/openssl"
+rustc --edition 2021 -O -C panic=abort --crate-type staticlib -D warnings tests/lockstep/second/lib.rs -o "$out/libsecond.a"
+rustc --edition 2021 -O -D warnings tests/lockstep/second/openssl.rs -o "$out/openssl"
 compile() { # PROGRAM FLAGS SOURCE.. : every word of the flags by itself
     program=$1 flags=$2
     shift 2
@@ -18,6 +18,6 @@ compile() { # PROGRAM FLAGS SOURCE.. : every word of the flags by itself
 }
 compile yard -O2 demo/yard.c
 compile yard-checked "$checkers" demo/yard.c
-compile together -O2 tests/together/*.c
-compile together-checked "$checkers" tests/together/*.c
+compile lockstep -O2 tests/lockstep/*.c
+compile lockstep-checked "$checkers" tests/lockstep/*.c
 echo "the library, the demo, the second program and the comparison are built"

@@ -2,7 +2,7 @@
 """edits.py: the wrong programs and the faults, and whether they still fit what they edit.
 
 A wrong program is an edit of a crate that the prover must refuse, in crates/CRATE/must-fail/ where the gate tries it, and in
-tests/shams/CRATE/ where `make shams` does. Its lines:
+tests/wrong/CRATE/ where `make shams` does. Its lines:
 
     file: src/lib.rt     a file of the crate, for the texts after it
     old: text            stands there exactly once
@@ -13,7 +13,7 @@ The twin of an edit is the same edit with a right body, which the prover must ac
 a helper that promises too little or a line of a proof that no longer fits. An edit that adds a function or changes a proof
 has one. (`rt` passes over `right:`.)
 
-A fault of tests/faults.txt is a name, a file of tests/second/, and a text that stands there exactly once and is replaced:
+A fault of tests/wrong/faults.txt is a name, a file of tests/lockstep/second/, and a text that stands there exactly once and is replaced:
 
     == name
     -- file
@@ -28,8 +28,8 @@ import pathlib
 import re
 import sys
 
-ROOT = pathlib.Path(__file__).resolve().parent.parent
-GATE, SHAMS = "crates/*/must-fail/*.edit", "tests/shams/*/*.edit"
+ROOT = pathlib.Path(__file__).resolve().parents[2]
+GATE, SHAMS = "crates/*/must-fail/*.edit", "tests/wrong/*/*.edit"
 
 
 class Stale(Exception):
@@ -92,7 +92,7 @@ def all_edits():
 
 def read_faults():
     """name, file, text and other text of each"""
-    for part in re.split(r"^== ", (ROOT / "tests" / "faults.txt").read_text(), flags=re.M)[1:]:
+    for part in re.split(r"^== ", (ROOT / "tests" / "wrong" / "faults.txt").read_text(), flags=re.M)[1:]:
         name, file, change = part.split("\n", 2)
         old, new = re.split(r"^\+\+\n", change, maxsplit=1, flags=re.M)
         yield name, file.removeprefix("-- "), old.rstrip("\n"), new.rstrip("\n")
@@ -113,7 +113,7 @@ def troubles(edits):
             yield f"the twin of {edit.path.name} has other functions"
     for name, file, old, _ in read_faults():
         try:
-            replaced((ROOT / "tests" / "second" / file).read_text(), old, "", f"the fault '{name}', {file}")
+            replaced((ROOT / "tests" / "lockstep" / "second" / file).read_text(), old, "", f"the fault '{name}', {file}")
         except Stale as stale:
             yield str(stale)
 

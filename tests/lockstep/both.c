@@ -1,5 +1,5 @@
 /* Calling both and comparing what they leave. */
-#include "together.h"
+#include "lockstep.h"
 
 #include <inttypes.h>
 #include <stdio.h>

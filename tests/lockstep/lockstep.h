@@ -1,8 +1,8 @@
 /* Two devices side by side: the library behind she.h, and a second one that shares nothing with it, whose functions are named
  * second_* and take the same parameters. Every call is made to both, each on its own copy of everything lent, and whatever either
  * leaves behind is compared. */
-#ifndef TOGETHER_H
-#define TOGETHER_H
+#ifndef LOCKSTEP_H
+#define LOCKSTEP_H
 
 #include "she.h"
 

@@ -1,5 +1,5 @@
 /* What is small enough to be tried whole: every value of every byte of a record, every slot, every pair, every bit. */
-#include "together.h"
+#include "lockstep.h"
 
 #include <inttypes.h>
 #include <stdio.h>
