@@ -47,7 +47,7 @@ second_account() {
 part "the layout of the files (rt fmt)" rt fmt --check
 part "the proofs of what takes the record in place, as they are written from its source" python3 tools/in_place.py --check
 part "the wrong programs and the faults, held to what they edit" python3 tests/wrong/edits.py
-part "the pages on promises and demands, held to the crates" python3 tests/promises.py
+part "the pages on promises and demands, held to the crates" python3 tests/pages.py
 part "the twins of the must-fail edits" python3 tests/wrong/shams.py --gate
 part "the library as C has it" sh tests/c.sh
 part "the comparison with the second program" python3 tests/compare.py sh tools/run-program.sh vectors

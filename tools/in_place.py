@@ -1,27 +1,32 @@
 #!/usr/bin/env python3
-"""in_place.py [--check]: writes crates/she/proofs/she_X/Proof.antt for every routine that takes the record in place.
+"""in_place.py [--check]: writes the proofs of every routine that takes a record in place.
 
-The prover has no walk of its own for a reference to a struct, so each of these routines is walked by hand. They all have one body:
+The prover has no walk of its own for a reference to a struct, so each of these routines is walked by hand. They all have one body,
+here of the crate `she`, whose record is a `Device` and whose commands hand back a `Reply`:
 
     let before = *device;
     let reply = COMMAND(before, ..);        // every other parameter, in its order
     *device = reply.device;
     reply.answer
 
-and so one proof, tools/in_place.template, but for the parameters and for the places in memory where the walk finds each local,
-which depend on them. This program reads the routines in crates/she/src/lib.rt, counts, and fills the template in. Nothing rests
-on it, as the checker checks what it has written. With --check it writes nothing, and fails where a proof is not what it would
-write.
+and so one proof, tools/in_place.template, but for the names, for the parameters, and for the places in memory where the walk finds
+each local, which depend on them. This program finds the crates that have such routines, reads the names off their source, counts,
+and fills the template in: crates/CRATE/proofs/ROUTINE/Proof.antt. What the proofs of a crate share is filled in likewise:
+crates/CRATE/proofs/InPlace.antt, of tools/in_place_shared.template. Nothing rests on this program, as the checker checks what it
+has written. With --check it writes nothing, and fails where a proof is not what it would write.
+
+It also makes wrong programs of these routines (`wrong_programs`), for tests/wrong/edits.py: what their promises must exclude can be
+read off the source too.
 """
-import os
+import pathlib
 import re
 import sys
 
-SOURCE = "crates/she/src/lib.rt"
-SHARED = "crates/she/proofs/InPlace.antt"
-TEMPLATE = "tools/in_place.template"
-KINDS = {"&[u8]": "shared", "&mut [u8]": "lent", "&mut u8": "byte", "u32": "u32", "u64": "u64"}
-WIDTH = {"u32": 32, "u64": 64}
+ROOT = pathlib.Path(__file__).resolve().parents[1]
+CRATES = ROOT / "crates"
+TEMPLATE, SHARED_TEMPLATE = ROOT / "tools/in_place.template", ROOT / "tools/in_place_shared.template"
+REFERENCES = {"&[": "shared", "&mut [": "lent", "&mut ": "byte"}
+WIDTH = {"u8": 8, "u32": 32, "u64": 64}
 COLUMNS = 126
 
 # Names that every file takes from the library itself, so that it can be seen whose they are.
@@ -97,14 +102,16 @@ def broken(line):
 
 
 class Parameter:
-    """Those that are references have a lifetime of their own, numbered from 1."""
+    """Those that are references have a lifetime of their own, numbered from 1. What one refers to are numbers of one type."""
 
-    def __init__(self, name, kind, lifetime):
-        self.name, self.kind, self.lifetime = name, kind, lifetime
-        self.is_ref = kind in ("shared", "lent", "byte")
-        self.is_slice = kind in ("shared", "lent")
-        self.is_written = kind in ("lent", "byte")
-        self.width = WIDTH.get(kind)
+    def __init__(self, name, written, lifetime):
+        self.name, self.type, self.lifetime = name, written, lifetime
+        sign, self.number = re.fullmatch(r"(&(?:mut )?\[?|)(u\d+)\]?", written).groups()
+        self.kind = REFERENCES.get(sign, "number")
+        self.is_ref = self.kind != "number"
+        self.is_slice = self.kind in ("shared", "lent")
+        self.is_written = self.kind in ("lent", "byte")
+        self.width = WIDTH[self.number]
         self.holds = "List ℕ" if self.is_slice else "ℕ"
         self.denotes = f"RefT ({self.holds})" if self.is_ref else "ℕ"
         self.term = f"ref-{name}" if self.is_ref else name
@@ -115,18 +122,18 @@ class Parameter:
 
     def row(self, before=0):
         """Its type, where so many lifetimes fewer come before it."""
-        at = f"(named {self.lifetime - before}) κ{self.name} u8"
-        return self.by_kind(f"ShrSlice {at}", f"MutSlice {at}", f"MutRef {at}", self.kind)
+        at = f"(named {self.lifetime - before}) κ{self.name} {self.number}"
+        return self.by_kind(f"ShrSlice {at}", f"MutSlice {at}", f"MutRef {at}", self.number)
 
     def stays(self):
-        at = f"({self.lifetime} ∷ []) tt (plain (λ _. u8))"
-        number = f"stay-none (λ _. {self.kind}) yes"
+        at = f"({self.lifetime} ∷ []) tt (plain (λ _. {self.number}))"
+        number = f"stay-none (λ _. {self.number}) yes"
         return self.by_kind(f"stay-none-slice {at} yes", f"gave-slice {at}", f"gave-ref {at}", number)
 
     def goes(self, count):
-        at, given = f"𝓤 H A W {count}", f"{self.lifetime} tt (plain (λ _. u8))"
-        read = f"goes-none-slice {at} ({self.lifetime} ∷ []) tt (plain (λ _. u8)) yes"
-        number = f"goes-none {at} (λ _. {self.kind}) yes (λ κs x f. refl)"
+        at, given = f"𝓤 H A W {count}", f"{self.lifetime} tt (plain (λ _. {self.number}))"
+        read = f"goes-none-slice {at} ({self.lifetime} ∷ []) tt (plain (λ _. {self.number})) yes"
+        number = f"goes-none {at} (λ _. {self.number}) yes (λ κs x f. refl)"
         return self.by_kind(read, f"goes-gave-slice {at} {given}", f"goes-gave-ref {at} {given}", number)
 
     def binders(self):
@@ -145,7 +152,7 @@ class Parameter:
         return self.by_kind("slice-vals", "slice-vals", "ptr-vals", f"uint-vals w{self.width}")
 
     def tells(self):
-        at = f"(named {self.lifetime}) (κs{path(self.lifetime)}) u8"
+        at = f"(named {self.lifetime}) (κs{path(self.lifetime)}) {self.number}"
         number = f"uint-tells w{self.width}"
         return self.by_kind(f"shr-slice-tells {at}", f"mut-slice-tells {at}", f"mut-tells {at}", number)
 
@@ -207,17 +214,17 @@ class Context:
 
 
 class Routine:
-    def __init__(self, name, parameters, command, equation, uses):
-        self.name, self.parameters, self.equation, self.uses = name, parameters, equation, uses
+    def __init__(self, source, lent, name, parameters, promise, call, command):
+        self.source, self.lent, self.name, self.parameters, self.promise, self.call = source, lent, name, parameters, promise, call
         crate, _, self.command = command.rpartition("::")
-        self.crate = crate or "she"
+        self.crate = crate or source.crate
         self.refs = [p for p in parameters if p.is_ref]
         self.written = [p for p in parameters if p.is_written]
         self.shared = [p for p in parameters if p.kind == "shared"]
         self.slices = [p for p in parameters if p.is_slice]
         # locals in the order of the compiled code: result, record, parameters, the copy, the reply, and for each buffer that is
         # written to a pointer and, of a slice, the slice made anew
-        self.locals = ["_0", "device"] + [p.name for p in parameters] + ["before", "reply"]
+        self.locals = ["_0", "the record"] + [p.name for p in parameters] + ["before", "reply"]
         for p in self.written:
             self.locals += [p.name + " pointer"] + ([p.name + " slice"] if p.is_slice else [])
 
@@ -235,7 +242,7 @@ class Routine:
             c.split(p.name, "rest")
             if p.kind == "shared":
                 own = f"‵ ({p.row()} .own ref-{p.name} (val-{p.name} ∷ []))"
-                twice = f"shr-slice-copy 𝓤 H A W (named {p.lifetime}) κ{p.name} u8 .twice ref-{p.name} (val-{p.name} ∷ [])"
+                twice = f"shr-slice-copy 𝓤 H A W (named {p.lifetime}) κ{p.name} {p.number} .twice ref-{p.name} (val-{p.name} ∷ [])"
                 c.do(f"use1 W ({own} ⊛ {own}) ({twice})", "split !")
                 c.names.insert(1, p.name + " kept")
         c.front("rest")
@@ -262,7 +269,7 @@ class Routine:
             elif not p.is_written:
                 c.drop(p.name)
         c.drop("lasts")
-        exits = nested(["r .device"] + [self.last(p) if p.is_written else "tt" for p in self.parameters])
+        exits = nested([f"r .{self.lent.field}"] + [self.last(p) if p.is_written else "tt" for p in self.parameters])
         lengths = nested(["tt"] + ["l" + p.name if p.kind == "lent" else "tt" for p in self.parameters])
         ends = f"ends-at 𝓤 H A f.ended stayed (f.clauses 𝓤 H A at-mem run) W {bound}"
         c.do(f"suffices ! _ ({ends} (vint w8 (r .answer)) (r .answer) {exits} {lengths})", "says ! e")
@@ -274,7 +281,7 @@ class Routine:
         c.front("kept")
         for p in reversed(self.parameters):
             if not p.is_ref:
-                c.made(p.name, f"owned ! {p.kind} (Is {p.kind}) (uint-makes 𝓤 H A W w{p.width}) {p.name} _ (refl, fits-{p.name})")
+                c.made(p.name, f"owned ! {p.number} (Is {p.number}) (uint-makes 𝓤 H A W w{p.width}) {p.name} _ (refl, fits-{p.name})")
             c.join(p.name, "kept")
         c.made("pointer", "feqI ! (List Val) (vptr b o ∷ []) (vptr b o ∷ []) refl")
         c.front("pointer", "seen", "borrow", "kept")
@@ -318,20 +325,21 @@ class Routine:
         tokens = [f"‵ (flft {life} {share})" for life, share in zip(lives, shares)] + ["‵ ftrue"]
         arguments = nested(["h"] + [p.term for p in P])
         bound = f"(({nested(['κ'] + lives)}, {nested(['q'] + shares)}, tt, passed, at-entry), tt)"
-        seen = ["‵ (fobs γ (T.the-row .coded .code (r .device)))", "‵ (fbor κ (Body (mem T.the-row) b o γ))", "‵ (flft κ q)"]
+        seen = [f"‵ (fobs γ (T.the-row .coded .code (r .{self.lent.field})))", "‵ (fbor κ (Body (mem T.the-row) b o γ))", "‵ (flft κ q)"]
         held = [f"({' ⊛ '.join(tokens)})", f"‵ (lasts g.ended {nested(lives)} {arguments} zs)", "‵ Kept"]
         given = "(κs .0) (qs .0) (a .0 .ptr .0) (a .0 .ptr .1) (a .0 .name) (a .0 .now)"
         others = 5 + 2 * count   # after the open borrow with its parts, and the locals
         cells = range(6, 6 + 2 * count, 2)   # of the locals at the end
         return {
+            **self.lent.places(),
             "name": self.name,
             "kebab name": kebab(self.name),
-            "crate": self.crate,
+            "command's crate": self.crate,
             "command": self.command,
             "kebab command": kebab(self.command),
-            "command_place": "Rattle.she.proofs" if self.crate == "she" else f"Rattle.{self.crate}.proofs",
+            "command's place": self.source.module(self.crate, "proofs"),
             "lifetimes": str(1 + len(self.refs)),
-            "denoted": product(["RefT Device"] + [p.denotes for p in P]),
+            "denoted": product([f"RefT {self.lent.record.name}"] + [p.denotes for p in P]),
             "stays": nested(["stay-ref (0 ∷ []) tt (plain (λ _. T.the-row))"] + [p.stays() for p in P]),
             "goes": nested([f"goes-ref 𝓤 H A W {1 + len(self.refs)} 0 tt (plain (λ _. T.the-row))"]
                            + [p.goes(1 + len(self.refs)) for p in P]),
@@ -339,7 +347,7 @@ class Routine:
             "held at exit → ": each(self.written, lambda p: p.holds + " → "),
             "names": each(P, lambda p: p.name + " "),
             "names at exit": each(self.written, lambda p: p.name + "′ "),
-            "equation": self.equation,
+            "equation": self.said_by_the_command(),
             "binders": each(P, Parameter.binders),
             "references": each(self.refs, Parameter.reference).rstrip("\n") + "\n" if self.refs else "",
             "passed": nested(["record { ptr = (b, o); name = γ; now = h }"] + [p.term for p in P]),
@@ -362,11 +370,11 @@ class Routine:
             "said": f"Says h {each(P, lambda p: p.name + ' ')}r" + each(self.written, lambda p: f" ({self.last(p)})"),
             "at the end": chain(seen + held),
             "steps at the end": self.at_the_end(bound),
-            "room → ": each(self.slices, lambda p: f"Room u8 (length {p.name}) → "),
+            "room → ": each(self.slices, lambda p: f"Room {p.number} (length {p.name}) → "),
             "rooms": each(self.slices, lambda p: f"room-{p.name} "),
             "machine values": chain(["vptr b o"] + [p.value for p in P]),
             "locals are made": each(range(count), lambda i: f"alloc1 ! (λ l{i}. "),
-            "parameters are passed": f"pass1 ! (init ! {self.at(0, 'device')} refl (tt, tt)) $ "
+            "parameters are passed": f"pass1 ! (init ! {self.at(0, 'the record')} refl (tt, tt)) $ "
             + each(P, lambda p: f"pass1 ! (init ! {self.at(0, p.name)} refl {p.lands()}) $ "),
             "the borrow's places": chain([2 * count, 2 * count + 1, 2 * count + 2]),
             "lent on": self.lent_on(5),
@@ -382,6 +390,27 @@ class Routine:
             "given rooms": each(self.slices, lambda p: f" (are{path(1 + P.index(p))} .0 .1)"),
         }
 
+    def said(self, answer, record, buffer):
+        """The promise of other things than at the routine's own exit: of an answer, of a record, and of each buffer."""
+        says = re.sub(r"(?<![\w.])r(?![\w′])", answer, self.promise)
+        says = says.replace(f"(now ({self.lent.parameter} .exit))", record)
+        return re.sub(r"\(now \((\w+) \.exit\)\)|now \((\w+) \.exit\)", lambda m: buffer(m[1] or m[2], bool(m[1])), says)
+
+    def said_by_the_command(self):
+        """What the command promises of its reply, from what the routine promises of the record: the same definition."""
+        says = self.said("(r .answer)", f"(r .{self.lent.field})", lambda name, _: name + "′")
+        says = says.replace(f"(now ({self.lent.parameter} .entry))", "h")
+        return re.sub(r"\(now \((\w+) \.entry\)\)", r"\1", says)
+
+    def uses(self):
+        """The modules of what the promise names."""
+        cited = {}
+        for word in re.findall(r"[A-Za-z]+", self.promise):
+            module = self.source.home.get(word)
+            if module and word not in cited.setdefault(module, []):
+                cited[module].append(word)
+        return sorted(f"use {module}.{{{', '.join(names)}}}" for module, names in cited.items())
+
     def text(self):
         """The template filled in; a place that is a number and a local is where that local then stands."""
         places = self.places()
@@ -391,7 +420,7 @@ class Routine:
             number, _, local = place.partition(" ")
             return str(self.at(int(number), local)) if number.isdigit() else places[place]
 
-        template = open(TEMPLATE, encoding="utf-8").read()
+        template = TEMPLATE.read_text()
         if not self.refs:
             template = template.replace("«references»\n", "")
         if not self.written:
@@ -400,76 +429,171 @@ class Routine:
         body = re.sub(r"«([^»]+)»", fill, body)
         words = set(re.findall(r"[^\s()\[\]{},]+", re.sub(r"^use .*$", "", body, flags=re.M)))
         uses = []
-        for module, names in [*PLAIN.items(), ("Rattle.she.proofs.InPlace", shared_names())]:
+        for module, names in [*PLAIN.items(), (self.source.module(self.source.crate, "proofs") + ".InPlace", self.lent.shared_names())]:
             used = [name for name in names if name.strip("_") in words or name == "[]"]
             if used:
                 uses.append(f"use {module}.{{{', '.join(used)}}}")
-        whole = re.sub(r"«([^»]+)»", fill, head) + "\n".join(uses + self.uses) + "\n" + body
+        whole = re.sub(r"«([^»]+)»", fill, head) + "\n".join(uses + self.uses()) + "\n" + body
         return "\n".join(part for line in whole.split("\n") for part in broken(line))
 
+    def helper(self, name, promise, body):
+        """A function by value with the command's parameters."""
+        lent = self.lent
+        taken = "".join(f", {p.name}: {p.type}" for p in self.parameters)
+        promised = f"ensures {{ λ r. ⌜ {promise} ⌝ }}"
+        return f"fn {name}({lent.parameter}: {lent.record.name}{taken}) -> {lent.reply.name} {promised} {{ {body} }}\n\n"
 
-def shared_names():
-    """What a proof may take from the file that they share: what that file hands on, and what it declares."""
-    text = open(SHARED, encoding="utf-8").read()
-    handed_on = re.findall(r"^(?:unfoldable )?pub use \S+\.\{(.*)\}$", text, re.M)
-    return [name for names in handed_on for name in names.split(", ")] + re.findall(r"^(?:abbrev )?pub ([\w′-]+) :", text, re.M)
+    def idle(self, name, answer):
+        """One that gives this answer, leaves all as it was, and sets what is a byte to 0."""
+        kinds = {p.name: p.kind for p in self.parameters}
+
+        def unchanged(buffer, in_brackets):
+            entry = "0" if kinds[buffer] == "byte" else f"now ({buffer} .entry)"
+            return f"({entry})" if in_brackets and entry != "0" else entry
+
+        says = self.said("(r .answer)", f"(r .{self.lent.field})", lambda n, b: f"(now ({n} .exit))" if b else f"now ({n} .exit)")
+        left = self.said(str(answer), self.lent.parameter, unchanged)
+        zeros = "".join(f"*{p.name} = 0; " for p in self.written if not p.is_slice)
+        handed_back = f"{self.lent.reply.name} {{ answer: {answer}, {self.lent.field}: {self.lent.parameter}, }}"
+        return self.helper(name, f"{says.partition(' ≡ ')[0]} ≡ {left.partition(' ≡ ')[0]}", zeros + handed_back)
+
+    def right(self, name):
+        """One that does what the command does, by calling it."""
+        says = self.said("(r .answer)", f"(r .{self.lent.field})", lambda n, b: f"(now ({n} .exit))" if b else f"now ({n} .exit)")
+        says = says.replace(f"(now ({self.lent.parameter} .entry))", self.lent.parameter)
+        return self.helper(name, says, re.sub(r"\bbefore\b", self.lent.parameter, self.call))
+
+    def wrong_programs(self):
+        """Name, reason, and the changes of src/lib.rt, each a text that stands there once, its wrong and its right replacement."""
+        head = f'#[no_mangle]\npub extern "C" fn {self.name}('
+        for does, answer, why in (("only_answers", 0, "answers 0 and leaves all as it was"), ("refuses_all", 12, "refuses all")):
+            called = re.sub(r"^[\w:]+", does, self.call)
+            yield f"{self.name}_{does}", why, [
+                (f"let reply = {self.call};", f"let reply = {called};", None),
+                (head, self.idle(does, answer) + head, self.right(does) + head),
+            ]
 
 
 # ---- the source
-
-ROUTINE = re.compile(
-    r'pub extern "C" fn (she_\w+)\(\s*device: &mut Device,?([^)]*)\) -> u8\s+ensures \{ λ r\. ⌜ (.*) ⌝ \}\s+\{'
-    r"\s+let before = \*device;\s+let reply = ([\w:]+)\(\s*before,?([^)]*)\);"
-    r"\s+\*device = reply\.device;\s+reply\.answer\s+\}")
 
 
 def listed(text):
     return [item.strip() for item in text.split(",") if item.strip()]
 
 
-def said_by_the_command(promise):
-    """What the command promises of its reply, from what the routine promises of the record: the same definition."""
-    says = promise.replace("outcome r (now (device .exit))", "outcome (r .answer) (r .device)")
-    says = says.replace("(now (device .entry))", "h")
-    says = re.sub(r"\(now \((\w+) \.entry\)\)", r"\1", says)
-    return re.sub(r"\(now \((\w+) \.exit\)\)|now \((\w+) \.exit\)", lambda m: (m[1] or m[2]) + "′", says)
+class Struct:
+    """A struct of the code: its name, its crate, its fields with their types."""
+
+    def __init__(self, name, source):
+        self.name, self.crate = name, source.crate_of(name)
+        fields = re.search(rf"^pub struct {name} \{{(.*?)^\}}", Source(self.crate).text, re.M | re.S)[1]
+        self.fields = dict(re.findall(r"(\w+): ([^,]+),", re.sub(r"//.*", "", fields)))
+
+    def places(self, source, what):
+        return {
+            what: self.name,
+            f"{what}'s definition": f"{source.module(self.crate, 'specs')}.declared.{self.name}",
+            f"{what}'s laws": f"{source.module(self.crate, 'proofs')}.{self.name}",
+        }
 
 
-def routines(source):
-    """The routines that take the record in place, as the source has them."""
-    home = {}
-    for module, names in re.findall(r"^ghost use ([^{]+)\.\{(.*)\};$", source, re.M):
-        home.update({name: module for name in names.split(", ")})
-    found = ROUTINE.findall(source)
-    declared = re.findall(r"fn (she_\w+)\(\s*device: &mut Device", source)
-    assert declared == [routine[0] for routine in found], "a routine has another body"
-    for name, parameters, promise, command, passed in found:
-        pairs = [item.split(": ") for item in listed(parameters)]
-        assert listed(passed) == [n for n, _ in pairs], f"{name} passes something else on"
-        taken, lifetime = [], 0
-        for n, kind in pairs:
-            lifetime += kind.startswith("&")
-            taken.append(Parameter(n, KINDS[kind], lifetime))
-        cited = {}
-        for word in re.findall(r"[A-Za-z]+", promise):
-            if word in home and word not in cited.setdefault(home[word], []):
-                cited[home[word]].append(word)
-        uses = sorted(f"use {module}.{{{', '.join(names)}}}" for module, names in cited.items())
-        yield Routine(name, taken, command, said_by_the_command(promise), uses)
+class Lent:
+    """The record that the routines of a crate are lent: the name of the parameter, its struct, and the reply that a command hands
+    back, which has an answer and the record after."""
+
+    def __init__(self, source, parameter, record, command):
+        crate, _, name = command.rpartition("::")
+        reply = re.search(rf"fn {name}\([^)]*\) -> (\w+)", Source(crate or source.crate).text)[1]
+        self.source, self.parameter, self.record, self.reply = source, parameter, Struct(record, source), Struct(reply, source)
+        self.field = list(self.reply.fields)[1]
+        assert self.reply.fields == {"answer": "u8", self.field: record}, f"{reply} is no answer with a {record} after it"
+
+    def places(self):
+        return {"crate": self.source.crate, "crate's proofs": self.source.module(self.source.crate, "proofs"),
+                "record": self.parameter, "field": self.field,
+                **self.record.places(self.source, "Record"), **self.reply.places(self.source, "Reply")}
+
+    def shared(self):
+        """What the proofs of the crate share."""
+        return re.sub(r"«([^»]+)»", lambda found: self.places()[found[1]], SHARED_TEMPLATE.read_text())
+
+    def shared_names(self):
+        """What a proof may take from there: what that file hands on, and what it declares."""
+        text = self.shared()
+        handed_on = re.findall(r"^(?:unfoldable )?pub use \S+\.\{(.*)\}$", text, re.M)
+        return [name for names in handed_on for name in names.split(", ")] + re.findall(r"^(?:abbrev )?pub ([\w′-]+) :", text, re.M)
+
+
+class Source:
+    """The code of a crate, and where it takes its names from."""
+
+    HEAD = r'pub extern "C" fn (\w+)\(\s*(\w+): &mut ([A-Z]\w*)'
+    ROUTINE = re.compile(
+        HEAD + r",?([^)]*)\) -> u8\s+ensures \{ λ r\. ⌜ (.*) ⌝ \}\s+\{"
+        r"\s+let before = \*(\w+);\s+let reply = (([\w:]+)\(\s*before,?([^)]*)\));"
+        r"\s+\*(\w+) = reply\.(\w+);\s+reply\.answer\s+\}")
+
+    def __init__(self, crate):
+        self.crate = crate
+        self.text = "\n".join(file.read_text() for file in sorted((CRATES / crate / "src").glob("**/*.rt")))
+        self.home = {}
+        for module, names in re.findall(r"^ghost use ([^{]+)\.\{(.*)\};$", self.text, re.M):
+            self.home.update({name: module for name in names.split(", ")})
+
+    def crate_of(self, struct):
+        taken = re.search(rf"^use (\w+)::{struct};$", self.text, re.M)
+        return taken[1] if taken else self.crate
+
+    def module(self, crate, part):
+        """How this crate names the definitions or the proofs of a crate."""
+        return f"Rattle.{crate}.{part}" if crate == self.crate else f"Rattle.{crate}.{part}"
+
+    def routines(self):
+        """The routines that take a record in place; all of a crate take the same one."""
+        found = self.ROUTINE.findall(self.text)
+        assert [f[:3] for f in found] == re.findall(self.HEAD, self.text), f"a routine of {self.crate} has another body"
+        lent = Lent(self, *found[0][1:3], found[0][7]) if found else None
+        for name, record, struct, parameters, promise, copied, call, command, passed, stored, field in found:
+            assert (record, struct, field) == (lent.parameter, lent.record.name, lent.field), f"{name} takes another record"
+            pairs = [item.split(": ") for item in listed(parameters)]
+            assert copied == stored == record and listed(passed) == [n for n, _ in pairs], f"{name} passes something else on"
+            taken, lifetime = [], 0
+            for n, written in pairs:
+                lifetime += written.startswith("&")
+                taken.append(Parameter(n, written, lifetime))
+            yield Routine(self, lent, name, taken, promise, call, command)
+
+
+def all_routines():
+    return [routine for folder in sorted(CRATES.glob("*/src")) for routine in Source(folder.parent.name).routines()]
+
+
+def wrong_programs():
+    """Of each routine what its promise must exclude: crate, routine, and what `Routine.wrong_programs` gives."""
+    return [(routine.source.crate, routine.name, *program) for routine in all_routines() for program in routine.wrong_programs()]
+
+
+def written():
+    """Each file, and what it must hold."""
+    files = {}
+    for routine in all_routines():
+        proofs = CRATES / routine.source.crate / "proofs"
+        files[proofs / "InPlace.antt"] = routine.lent.shared()
+        files[proofs / routine.name / "Proof.antt"] = routine.text()
+    return files
 
 
 def main():
     check = sys.argv[1:] == ["--check"]
     stale = []
-    for routine in routines(open(SOURCE, encoding="utf-8").read()):
-        place = f"crates/she/proofs/{routine.name}/Proof.antt"
+    for file, text in written().items():
         if not check:
-            os.makedirs(os.path.dirname(place), exist_ok=True)
-            open(place, "w", encoding="utf-8").write(routine.text())
-        elif open(place, encoding="utf-8").read() != routine.text():
-            stale.append(place)
-    for place in stale:
-        print(f"{place} is not what tools/in_place.py writes")
+            file.parent.mkdir(exist_ok=True)
+            file.write_text(text)
+        elif not file.is_file() or file.read_text() != text:
+            stale.append(file)
+    for file in stale:
+        print(f"{file.relative_to(ROOT)} is not what tools/in_place.py writes")
     sys.exit(1 if stale else 0)
 
 

@@ -4,6 +4,8 @@
 A wrong program is an edit of a crate that the prover must refuse, in crates/CRATE/must-fail/ where the gate tries it, and in
 tests/wrong/CRATE/ where `make shams` does. Its lines:
 
+    of: CRATE::ROUTINE   the routines, one or more, whose promise excludes it, or the file of the definition that it spoils
+    why: a few words     what is wrong with it; docs/PROMISES.md has these words
     file: src/lib.rt     a file of the crate, for the texts after it
     old: text            stands there exactly once
     new: other text      and is replaced by this
@@ -11,9 +13,12 @@ tests/wrong/CRATE/ where `make shams` does. Its lines:
 
 The twin of an edit is the same edit with a right body, which the prover must accept: so what is refused is the wrong body, and not
 a helper that promises too little or a line of a proof that no longer fits. An edit that adds a function or changes a proof
-has one. (`rt` passes over `right:`.)
+has one. (`rt` passes over `of:`, `why:` and `right:`.)
 
-A fault of tests/wrong/faults.txt is a name, a file of tests/lockstep/second/, and a text that stands there exactly once and is replaced:
+Of the routines that take a record in place, two wrong programs each are made by tools/in_place.py and stand in no file.
+
+A fault of tests/wrong/faults.txt is a name, a file of tests/lockstep/second/, and a text that stands there exactly once and is
+replaced:
 
     == name
     -- file
@@ -21,14 +26,17 @@ A fault of tests/wrong/faults.txt is a name, a file of tests/lockstep/second/, a
     ++
     other text
 
-Run by itself, it writes each edit that no longer fits the crates, each that lacks a twin, and each fault that no longer fits the
-second program. The status is 0 only where there is none.
+Run by itself, it writes each edit that no longer fits the crates, each that lacks a twin or a reason, and each fault that no longer
+fits the second program. The status is 0 only where there is none.
 """
 import pathlib
 import re
 import sys
 
 ROOT = pathlib.Path(__file__).resolve().parents[2]
+sys.path.append(str(ROOT / "tools"))
+import in_place  # noqa: E402
+
 GATE, SHAMS = "crates/*/must-fail/*.edit", "tests/wrong/*/*.edit"
 
 
@@ -47,25 +55,17 @@ def functions(text):
 
 
 class Edit:
-    def __init__(self, path):
-        self.path, self.name = path, path.stem
-        self.is_of_the_gate = path.parent.name == "must-fail"
-        self.crate = path.parent.parent.name if self.is_of_the_gate else path.parent.name
+    def __init__(self, crate, name, is_of_the_gate=False):
+        self.crate, self.name, self.is_of_the_gate = crate, name, is_of_the_gate
+        self.of, self.why = [], ""
         self.changes = []   # (file, old, new, right), the last None where the twin has the new text too
         self.strange = []   # lines that mean nothing
-        file = old = None
-        for line in path.read_text().splitlines():
-            key, _, text = re.sub(r"^new:$", "new: ", line).partition(": ")
-            if key == "file":
-                file = text
-            elif key == "old":
-                old = text
-            elif key == "new":
-                self.changes.append((file, old, text, None))
-            elif key == "right":
-                self.changes[-1] = (*self.changes[-1][:3], text)
-            elif line:
-                self.strange.append(line)
+
+    def where(self):
+        return "gate" if self.is_of_the_gate else "shams"
+
+    def __str__(self):
+        return f"{self.crate}/{self.name}"
 
     def has_twin(self):
         return any(right is not None for *_, right in self.changes)
@@ -82,12 +82,44 @@ class Edit:
         texts = {}
         for file, old, new, right in self.changes:
             text = texts.get(file) or (folder / file).read_text()
-            texts[file] = replaced(text, old, right if is_twin and right is not None else new, f"{self.path.name}, {file}")
+            texts[file] = replaced(text, old, right if is_twin and right is not None else new, f"{self}, {file}")
         return texts
 
 
+def read_edit(path):
+    is_of_the_gate = path.parent.name == "must-fail"
+    edit = Edit(path.parents[is_of_the_gate].name, path.stem, is_of_the_gate)
+    file = old = None
+    for line in path.read_text().splitlines():
+        key, _, text = re.sub(r"^new:$", "new: ", line).partition(": ")
+        if key == "of":
+            edit.of = text.split()
+        elif key == "why":
+            edit.why = text
+        elif key == "file":
+            file = text
+        elif key == "old":
+            old = text
+        elif key == "new":
+            edit.changes.append((file, old, text, None))
+        elif key == "right":
+            edit.changes[-1] = (*edit.changes[-1][:3], text)
+        elif line:
+            edit.strange.append(line)
+    return edit
+
+
+def made_edits():
+    """those of the routines that take a record in place"""
+    for crate, routine, name, why, changes in in_place.wrong_programs():
+        edit = Edit(crate, name)
+        edit.of, edit.why = [f"{crate}::{routine}"], why
+        edit.changes = [("src/lib.rt", *change) for change in changes]
+        yield edit
+
+
 def all_edits():
-    return [Edit(path) for pattern in (GATE, SHAMS) for path in sorted(ROOT.glob(pattern))]
+    return [read_edit(path) for pattern in (GATE, SHAMS) for path in sorted(ROOT.glob(pattern))] + list(made_edits())
 
 
 def read_faults():
@@ -101,16 +133,18 @@ def read_faults():
 def troubles(edits):
     for edit in edits:
         for line in edit.strange:
-            yield f"{edit.path.name} has a line that means nothing: {line}"
+            yield f"{edit} has a line that means nothing: {line}"
+        if not edit.of or not edit.why:
+            yield f"{edit} does not say whose it is, or why it is wrong"
         for is_twin in (False, True):
             try:
                 edit.files(ROOT / "crates" / edit.crate, is_twin)
             except Stale as stale:
                 yield str(stale)
         if edit.needs_twin() and not edit.has_twin():
-            yield f"{edit.path.name} adds a function or changes a proof, and has no twin"
+            yield f"{edit} adds a function or changes a proof, and has no twin"
         if any(right is not None and functions(right) != functions(new) for *_, new, right in edit.changes):
-            yield f"the twin of {edit.path.name} has other functions"
+            yield f"the twin of {edit} has other functions"
     for name, file, old, _ in read_faults():
         try:
             replaced((ROOT / "tests" / "lockstep" / "second" / file).read_text(), old, "", f"the fault '{name}', {file}")

@@ -80,15 +80,14 @@ def tried(copy, edit, is_twin):
     began = time.time()
     for file, text in edit.files(ROOT / "crates" / edit.crate, is_twin).items():
         (copy / "crates" / edit.crate / file).write_text(text)
-    if edit.crate == "she":
-        run(copy, sys.executable, "tools/in_place.py").check_returncode()
+    run(copy, sys.executable, "tools/in_place.py").check_returncode()
     prover = run(copy, "rt", "dev", edit.crate)
     restore(copy, edit.crate)
     fault = trouble(edit, is_twin, prover)
     said = "".join(objections(prover.stdout)[:1])[:240]
     verdict = fault or ("accepted" if is_twin else "refused")
     took = f"{time.time() - began:.0f} s"
-    print(f"{edit.crate}/{edit.name}{', twin' * is_twin}: {verdict} ({took}) {said}".rstrip(), flush=True)
+    print(f"{edit}{', twin' * is_twin}: {verdict} ({took}) {said}".rstrip(), flush=True)
     return bool(fault)
 
 

@@ -1,5 +1,5 @@
 -- What the proofs of the routines that take the record in place have in common: the words of the kit's logic in which a walk is
--- written, and what is known of the reply that a command hands back.
+-- written, and what is known of the reply that a command hands back. Written by tools/in_place.py.
 -- Assumes nothing.
 use Prim.Native.Nat.{_<_, _^_}
 use mathlib.Core.List.{[], _∷_, List}

@@ -1,13 +1,16 @@
 #!/usr/bin/env python3
-"""promises.py: holds docs/PROMISES.md and docs/DEMANDS.md to the crates.
+"""pages.py [--write]: holds the pages to the files, and makes what of them can be made.
 
 Of every function that another crate or C can call: it has a row in the table of promises, its contract has no `requires`, the
 definition that its contract equates the outcome with is the one that the row names, in the file that the row names, the law is
-that of the contract's shape, and at least two wrong programs are named. Every one that the table names is an edit that is there,
-where the table says, and every edit that is there is named. Every theorem that a table names is in its file. Each row of the table
-of accounts in crate `demands` is what the routine of that call promises to perform, by value and in place, word for word and with
-the arguments in their order, so that a theorem about the calls is one about the code, and about all of it. And include/she.h
-declares what crate `she` exports, and nothing else.
+that of the contract's shape, and there are at least two wrong programs. Every theorem that a table names is in its file. Each row of
+the table of accounts in crate `demands` is what the routine of that call promises to perform, by value and in place, word for word
+and with the arguments in their order, so that a theorem about the calls is one about the code, and about all of it.
+include/she.h declares what crate `she` exports, and nothing else. README.md names every crate, and tests/README.md every file that
+tests something.
+
+Made of the files are, in docs/PROMISES.md, the wrong programs of each routine and of the definitions, from what each says of itself
+(tests/wrong/edits.py). With --write the page is written so; without, it must be so already.
 
 Writes each fault that it finds, and how much it looked at. The status is 0 only where there is no fault.
 """
@@ -89,50 +92,69 @@ def law_of(head):
     return "settled"
 
 
-def tried_where(cell, crate):
-    """each wrong program of a cell with its crate, that of the row unless the cell names another, and the word before it"""
-    where = ""
-    for word, name, other in re.findall(r"(gate|shams)|`([^`]+)`(?:, of crate (\w+))?", cell):
-        where = word or where
-        if name:
-            yield (other or crate, name), where
+def told(edit, crate):
+    """a wrong program in the words of its row, which is about this crate"""
+    other = f" of `{edit.crate}`" * (edit.crate != crate)
+    return f"{edit.why} ({edit.where()} `{edit.name}`{other})"
 
 
-def hold_promises(routines):
+def routine_of(cell):
+    """the crate and the name of the routine that a row is about"""
+    crate, _, name = quoted(cell)[0].partition("(")[0].rpartition("::")
+    return crate or "bench", name
+
+
+def with_wrong_programs(page, edits):
+    """the page on promises, with the wrong programs as they are"""
+    lines, heading = [], None
+    spoiled = [edit for edit in edits if ".antt" in edit.of[0]]
+    for before, line in zip([""] + page.split("\n"), page.split("\n")):
+        heading = cells(line)[0] if line.startswith("|") and not before.startswith("|") else heading
+        if heading == "spoiled definition" and line.startswith("| `"):
+            continue
+        if heading == "routine" and line.startswith("| `"):
+            crate, name = routine_of(line)
+            wrong = [told(edit, crate) for edit in edits if f"{crate}::{name}" in edit.of]
+            line = " | ".join(line.split(" | ")[:4] + ["<br>".join(wrong)]) + " |"
+        lines.append(line)
+        if heading == "spoiled definition" and re.fullmatch(r"[|-]+", line):
+            lines += [f"| `{edit.of[0]}` | {told(edit, edit.crate)} |" for edit in spoiled]
+    return "\n".join(lines)
+
+
+def hold_promises(routines, is_writing):
     page = ROOT / "docs" / "PROMISES.md"
-    edits = {(edit.crate, edit.name): "gate" if edit.is_of_the_gate else "shams" for edit in all_edits()}
-    told, wrong, laws = {}, {}, {}
-    for routine, _, definition, law, _, tried in rows_under(page, "routine"):
-        if routine:
-            crate, _, name = quoted(routine)[0].partition("(")[0].rpartition("::")
-            crate = crate or "bench"
-            told[crate, name] = definition
-            laws[crate, name] = quoted(law)
-        for program, where in tried_where(tried, crate):
-            wrong.setdefault((crate, name), set()).add(program)
-            check(edits.get(program) == where, f"PROMISES.md: {'/'.join(program)} is not a wrong program of the {where or 'page'}")
-    for (crate, name), programs in wrong.items():
-        check(len(programs) > 1, f"{crate}::{name}: fewer than two wrong programs that its promise excludes")
-    named = set().union(*wrong.values())
+    edits = all_edits()
+    right = with_wrong_programs(page.read_text(), edits)
+    if is_writing:
+        page.write_text(right)
+    check(page.read_text() == right, "PROMISES.md has other wrong programs than there are: `python3 tests/pages.py --write`")
+    definitions, laws = {}, {}
+    for routine, _, definition, law, _ in rows_under(page, "routine"):
+        definitions[routine_of(routine)] = definition
+        laws[routine_of(routine)] = quoted(law)
+    for crate, name in routines:
+        count = sum(f"{crate}::{name}" in edit.of for edit in edits)
+        check(count > 1, f"{crate}::{name}: fewer than two wrong programs that its promise excludes")
+    for edit in edits:
+        for of in edit.of:
+            known = (CRATES / of).is_file() if of.endswith(".antt") else tuple(of.split("::")) in routines
+            check(known, f"the wrong program {edit} is of {of}, which is not there")
     for (crate, name), head in routines.items():
-        check((crate, name) in told, f"{crate}::{name} has no row in PROMISES.md")
+        check((crate, name) in definitions, f"{crate}::{name} has no row in PROMISES.md")
         check("requires" not in head, f"{crate}::{name} has a precondition")
         promised = re.findall(r"≡ (?:perform )?\(?([^\s()]+)", head)
         check(promised, f"{crate}::{name} promises no equation")
         for lent in re.findall(r"(\w+): &mut ", head):
             check(f"({lent} .exit)" in head, f"{crate}::{name} promises nothing of what {lent} holds at exit")
         check(laws.get((crate, name)) == [law_of(head)], f"{crate}::{name} is settled by {law_of(head)}, and its row names another law")
-        definition = told.get((crate, name), "")
+        definition = definitions.get((crate, name), "")
         row = quoted(definition)[:1]
         check(promised[:1] == row, f"{crate}::{name} promises {promised[:1]}, and its row has {row}")
         if "kit's library" not in definition:
             places(definition, f"{crate}::{name}")
-    for crate, name in told.keys() - routines.keys():
+    for crate, name in definitions.keys() - routines.keys():
         check(False, f"PROMISES.md has a row for {crate}::{name}, which is not there")
-    # some exclude a wrong definition and not a wrong routine, and are named beside the table
-    prose = {name for line in page.read_text().split("\n") if len(cells(line)) != 6 for name in quoted(line)}
-    for edit in edits.keys() - named:
-        check(edit[1] in prose, f"the wrong program {'/'.join(edit)} is not named in PROMISES.md")
     return len(edits)
 
 
@@ -236,17 +258,31 @@ def hold_header(routines):
     return len(declared)
 
 
+def hold_lists():
+    """README.md names every crate, and tests/README.md every script and folder of the tests, and none that is not there"""
+    crates = set(re.findall(r"^(\w+):", (ROOT / "crates.txt").read_text(), re.M))
+    named = {name for row in rows_under(ROOT / "README.md", "crate") for name in quoted(row[0])}
+    for crate in crates ^ named:
+        check(False, f"{crate} is in one of crates.txt and README.md's table of crates only")
+    tests = ROOT / "tests"
+    there = {str(file.relative_to(tests)) for file in tests.rglob("*") if file.suffix in (".sh", ".py", ".txt")}
+    told_of = set(re.findall(r"`([\w/-]+\.(?:sh|py|txt))`", (tests / "README.md").read_text()))
+    for file in there ^ told_of:
+        check(False, f"{file} is in one of tests/ and tests/README.md only")
+
+
 def main():
     routines = public_routines()
     check(len(routines) > 60, "fewer public routines than there are")
-    edits = hold_promises(routines)
+    edits = hold_promises(routines, sys.argv[1:] == ["--write"])
+    hold_lists()
     theorems = hold_theorems()
     calls = hold_calls(routines)
     declared = hold_header(routines)
     for fault in faults:
-        print(f"promises: {fault}")
+        print(f"pages: {fault}")
     looked = f"{len(routines)} routines, {edits} wrong programs, {theorems} names of theorems, {calls} calls, {declared} in she.h"
-    print(f"promises: {looked}, {len(faults)} faults")
+    print(f"pages: {looked}, {len(faults)} faults")
     return 1 if faults else 0
 
 
