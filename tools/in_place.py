@@ -436,42 +436,44 @@ class Routine:
         whole = re.sub(r"«([^»]+)»", fill, head) + "\n".join(uses + self.uses()) + "\n" + body
         return "\n".join(part for line in whole.split("\n") for part in broken(line))
 
-    def helper(self, name, promise, body):
-        """A function by value with the command's parameters."""
+    def stand_in(self, promise, body):
+        """A function by value in the place of the command, with its parameters."""
         lent = self.lent
         taken = "".join(f", {p.name}: {p.type}" for p in self.parameters)
         promised = f"ensures {{ λ r. ⌜ {promise} ⌝ }}"
-        return f"fn {name}({lent.parameter}: {lent.record.name}{taken}) -> {lent.reply.name} {promised} {{ {body} }}\n\n"
+        return f"fn stand_in({lent.parameter}: {lent.record.name}{taken}) -> {lent.reply.name} {promised} {{ {body} }}\n\n"
 
-    def idle(self, name, answer):
-        """One that gives this answer, leaves all as it was, and sets what is a byte to 0."""
+    def said_by_a_stand_in(self):
+        exits = {True: "(now ({} .exit))", False: "now ({} .exit)"}
+        says = self.said("(r .answer)", f"(r .{self.lent.field})", lambda name, in_brackets: exits[in_brackets].format(name))
+        return says.replace(f"(now ({self.lent.parameter} .entry))", self.lent.parameter)
+
+    def right_stand_in(self):
+        """It does what the command does, by calling it."""
+        return self.stand_in(self.said_by_a_stand_in(), re.sub(r"\bbefore\b", self.lent.parameter, self.call))
+
+    def idle_stand_in(self, answer):
+        """It gives this answer and leaves all as it was, and a byte that goes out 0."""
         kinds = {p.name: p.kind for p in self.parameters}
 
-        def unchanged(buffer, in_brackets):
-            entry = "0" if kinds[buffer] == "byte" else f"now ({buffer} .entry)"
-            return f"({entry})" if in_brackets and entry != "0" else entry
+        def unchanged(name, in_brackets):
+            if kinds[name] == "byte":
+                return "0"
+            return f"(now ({name} .entry))" if in_brackets else f"now ({name} .entry)"
 
-        says = self.said("(r .answer)", f"(r .{self.lent.field})", lambda n, b: f"(now ({n} .exit))" if b else f"now ({n} .exit)")
-        left = self.said(str(answer), self.lent.parameter, unchanged)
+        says, _, _ = self.said_by_a_stand_in().partition(" ≡ ")
+        left, _, _ = self.said(str(answer), self.lent.parameter, unchanged).partition(" ≡ ")
         zeros = "".join(f"*{p.name} = 0; " for p in self.written if not p.is_slice)
         handed_back = f"{self.lent.reply.name} {{ answer: {answer}, {self.lent.field}: {self.lent.parameter}, }}"
-        return self.helper(name, f"{says.partition(' ≡ ')[0]} ≡ {left.partition(' ≡ ')[0]}", zeros + handed_back)
-
-    def right(self, name):
-        """One that does what the command does, by calling it."""
-        says = self.said("(r .answer)", f"(r .{self.lent.field})", lambda n, b: f"(now ({n} .exit))" if b else f"now ({n} .exit)")
-        says = says.replace(f"(now ({self.lent.parameter} .entry))", self.lent.parameter)
-        return self.helper(name, says, re.sub(r"\bbefore\b", self.lent.parameter, self.call))
+        return self.stand_in(f"{says} ≡ {left}", zeros + handed_back)
 
     def wrong_programs(self):
-        """Name, reason, and the changes of src/lib.rt, each a text that stands there once, its wrong and its right replacement."""
+        """Name, reason, and the changes of the source: a text that stands there once, its wrong replacement and its right one."""
         head = f'#[no_mangle]\npub extern "C" fn {self.name}('
+        called = re.sub(r"^[\w:]+", "stand_in", self.call)
+        calls = (f"let reply = {self.call};", f"let reply = {called};", None)
         for does, answer, why in (("only_answers", 0, "answers 0 and leaves all as it was"), ("refuses_all", 12, "refuses all")):
-            called = re.sub(r"^[\w:]+", does, self.call)
-            yield f"{self.name}_{does}", why, [
-                (f"let reply = {self.call};", f"let reply = {called};", None),
-                (head, self.idle(does, answer) + head, self.right(does) + head),
-            ]
+            yield f"{self.name}_{does}", why, [calls, (head, self.idle_stand_in(answer) + head, self.right_stand_in() + head)]
 
 
 # ---- the source

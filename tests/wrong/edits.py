@@ -70,6 +70,10 @@ class Edit:
     def has_twin(self):
         return any(right is not None for *_, right in self.changes)
 
+    def twin(self):
+        """what tells one twin from another"""
+        return self.crate, tuple((file, old, new if right is None else right) for file, old, new, right in self.changes)
+
     def helpers(self):
         """the functions that it adds"""
         return {name for _, old, new, _ in self.changes for name in functions(new) - functions(old)}
@@ -88,7 +92,8 @@ class Edit:
 
 def read_edit(path):
     is_of_the_gate = path.parent.name == "must-fail"
-    edit = Edit(path.parents[is_of_the_gate].name, path.stem, is_of_the_gate)
+    folder = path.parents[1] if is_of_the_gate else path.parent
+    edit = Edit(folder.name, path.stem, is_of_the_gate)
     file = old = None
     for line in path.read_text().splitlines():
         key, _, text = re.sub(r"^new:$", "new: ", line).partition(": ")

@@ -107,13 +107,14 @@ def chosen(words):
     """what is to be tried: for each crate its edits, each as it is or as its twin"""
     is_gate = words[:1] == ["--gate"]
     wanted = words[is_gate:]
-    jobs = collections.defaultdict(list)
+    jobs, twins = collections.defaultdict(list), set()
     for edit in all_edits():
         if wanted and edit.crate not in wanted:
             continue
         if not is_gate:
             jobs[edit.crate].append((edit, False))
-        if edit.has_twin() and (edit.is_of_the_gate or not is_gate):
+        if edit.has_twin() and (edit.is_of_the_gate or not is_gate) and edit.twin() not in twins:
+            twins.add(edit.twin())   # two edits may have one twin
             jobs[edit.crate].append((edit, True))
     if not jobs or set(wanted) - set(jobs):
         sys.exit(f"shams: nothing to try for one of: {' '.join(words)}")
