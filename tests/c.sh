@@ -75,12 +75,12 @@ run demo demo $limit "$out/yard"
 run demo-checked demo $checked "$out/yard-checked"
 run demo-valgrind demo $memory "$out/yard"
 run openssl $limit "$out/openssl" 1
-run vectors $limit "$out/lockstep" vectors
+run published $limit "$out/lockstep" published tests/published.txt
 run sweeps $limit "$out/lockstep" sweeps 1
 run sequences $limit "$out/lockstep" 1 20000
 run sequences-checked $checked "$out/lockstep-checked" --exact --some 2 3000
 run sweeps-checked $checked "$out/lockstep-checked" sweeps 2
-run vectors-valgrind $memory "$out/lockstep" --exact vectors
+run published-valgrind $memory "$out/lockstep" --exact published tests/published.txt
 run sequences-valgrind $memory "$out/lockstep" --exact --some 3 1500
 run shipped sh tests/lockstep/shipped.sh
 echo "C: $passed passed, $failed failed"

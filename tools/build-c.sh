@@ -4,7 +4,6 @@
 set -eu
 cd "$(dirname "$0")/.."
 out=target/native
-PATH=$PATH:${CARGO_HOME:-$HOME/.cargo}/bin # where rustup puts rustc
 sh tools/native-archive.sh she
 warnings="-Wall -Wextra -Wpedantic -Werror"
 checkers="-g -O1 -fsanitize=address,undefined -fno-sanitize-recover=all"

@@ -9,8 +9,11 @@ set -eu
 crate=$1
 machine=$(uname -m)
 mkdir -p target/native
+archive() { # the kit's own, proved first
+    sh tools/watch.sh "proving and compiling $crate" target/native/log rt staticlib "$crate" || { cat target/native/log; exit 1; }
+}
 if [ "$machine" = x86_64 ]; then
-    rt staticlib "$crate" >target/native/log 2>&1 || { cat target/native/log; exit 1; }
+    archive
     cp "target/staticlib/lib$crate.a" target/native/
     exit 0
 fi
@@ -44,5 +47,6 @@ grep -v -e '^target datalayout' -e '^target triple' "\$module.ll" >"\$module.nat
 exec "$compiler" -O3 -fPIC -ffunction-sections -fdata-sections -Wno-override-module -c -x ir "\$module.native.ll" -o "\$out"
 SCRIPT
 chmod +x "$copy/on/$machine/toolchain/bin/clang"
-RATTLE_HOME=$copy rt staticlib "$crate" >target/native/log 2>&1 || { cat target/native/log; exit 1; }
+export RATTLE_HOME="$copy"
+archive
 mv "target/staticlib/lib$crate.a" target/native/

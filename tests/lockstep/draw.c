@@ -4,7 +4,7 @@
 
 #include <string.h>
 
-/* The tools for building messages are the second's; vectors.c holds both to the published ones. */
+/* The tools for building messages are the second's; published.c holds both to the published ones. */
 extern __typeof__(she_kdf) second_kdf;
 extern __typeof__(she_cbc_encrypt) second_cbc_encrypt;
 extern __typeof__(she_cmac) second_cmac;

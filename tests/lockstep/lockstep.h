@@ -136,8 +136,8 @@ uint64_t calls_counted(void);
 void print_counts(void);
 int is_anything_missing(void); /* says what */
 
-/* ---- vectors.c: published vectors */
-int run_vectors(void);
+/* ---- published.c: published vectors, of a file */
+int run_published(const char *path);
 
 /* ---- sweeps.c: what is small enough to be tried whole */
 int run_sweeps(uint64_t seed);

@@ -1,21 +1,25 @@
 /* lockstep [--exact] [--some] [--only NUMBER] SEED SEQUENCES   random sequences; 0 sequences: without end
  * lockstep [--exact] sweeps SEED                               whole ranges, one after the other
- * lockstep [--exact] vectors                                   published vectors
+ * lockstep [--exact] published FILE                            published vectors: tests/published.txt
  *
  * --exact lends each buffer in memory of its very length, for a memory checker. --some lets a run pass in which not everything
  * was seen. --only runs one sequence, by its number. Ends with 0 if all agreed and everything was seen, and otherwise with 1. */
+#define _POSIX_C_SOURCE 199309L /* for isatty */
 #include "lockstep.h"
 
 #include <inttypes.h>
+#include <signal.h>
 #include <stdio.h>
 #include <stdlib.h>
 #include <string.h>
 #include <time.h>
+#include <unistd.h>
 
-enum { LINE_EVERY = 10000 };
+enum { SECONDS_BETWEEN_LINES = 10 };
 
 struct options {
-    int is_some, is_only, is_sweeps, is_vectors;
+    int is_some, is_only, is_sweeps;
+    const char *published;
     uint64_t only, seed, sequences;
 };
 
@@ -37,22 +41,44 @@ static void run_sequence(uint64_t seed, uint64_t sequence) {
     }
 }
 
-static void print_progress(uint64_t sequences) {
-    printf("%" PRIu64 " sequences, %" PRIu64 " calls, no difference\n", sequences, calls_counted());
+static void print_run(uint64_t seed, uint64_t sequences, time_t start) {
+    printf("seed %" PRIu64 ": %" PRIu64 " sequences, %" PRIu64 " calls to each, no difference, %.0f s", seed, sequences,
+           calls_counted(), difftime(time(NULL), start));
+}
+
+/* That the run lives: on a terminal one line, written over every second, and elsewhere a line now and then. */
+static void print_progress(uint64_t seed, uint64_t sequences, time_t start) {
+    static time_t last;
+    int is_terminal = isatty(STDOUT_FILENO);
+    time_t now = time(NULL);
+    if (!last) last = start;
+    if (difftime(now, last) < (is_terminal ? 1 : SECONDS_BETWEEN_LINES)) return;
+    last = now;
+    if (is_terminal) fputs("\r", stdout);
+    print_run(seed, sequences, start);
+    if (!is_terminal) putchar('\n');
     fflush(stdout);
 }
 
+static volatile sig_atomic_t is_stopped;
+
+static void stop(int signal) { is_stopped = signal; }
+
+/* A run without end is stopped from outside, and then says what it has seen. */
 static int run_random(const struct options *o) {
-    clock_t start = clock();
-    for (uint64_t i = 0; !o->sequences || i < o->sequences; i++) {
+    time_t start = time(NULL);
+    uint64_t i = 0;
+    if (!o->sequences) signal(SIGINT, stop), signal(SIGTERM, stop);
+    for (; !is_stopped && (!o->sequences || i < o->sequences); i++) {
         run_sequence(o->seed, i);
-        if (!o->sequences && (i + 1) % LINE_EVERY == 0) print_progress(i + 1);
+        print_progress(o->seed, i + 1, start);
     }
+    putchar('\n');
     print_counts();
     print_digest();
-    printf("seed %" PRIu64 ": %" PRIu64 " sequences, %" PRIu64 " calls to each, no difference, %.1f s\n", o->seed, o->sequences,
-           calls_counted(), (double)(clock() - start) / CLOCKS_PER_SEC);
-    return is_anything_missing() && !o->is_some;
+    print_run(o->seed, i, start);
+    putchar('\n');
+    return is_anything_missing() && !o->is_some && o->sequences;
 }
 
 static int run_only(const struct options *o) {
@@ -73,12 +99,12 @@ static uint64_t parse(const char *text) {
 static void usage(void) {
     fputs("usage: lockstep [--exact] [--some] [--only NUMBER] SEED SEQUENCES\n"
           "       lockstep [--exact] sweeps SEED\n"
-          "       lockstep [--exact] vectors\n", stderr);
+          "       lockstep [--exact] published FILE\n", stderr);
     exit(2);
 }
 
 static struct options read_options(int count, char **words) {
-    struct options o = {0, 0, 0, 0, 0, 0, 0};
+    struct options o = {0, 0, 0, NULL, 0, 0, 0};
     int i = 1;
     for (; i < count && !strncmp(words[i], "--", 2); i++) {
         if (!strcmp(words[i], "--exact")) lend_exactly = 1;
@@ -86,8 +112,7 @@ static struct options read_options(int count, char **words) {
         else if (!strcmp(words[i], "--only") && i + 1 < count) o.is_only = 1, o.only = parse(words[++i]);
         else usage();
     }
-    o.is_vectors = i + 1 == count && !strcmp(words[i], "vectors");
-    if (o.is_vectors) return o;
+    if (i + 2 == count && !strcmp(words[i], "published")) return o.published = words[i + 1], o;
     o.is_sweeps = i + 2 == count && !strcmp(words[i], "sweeps");
     if (o.is_sweeps) return o.seed = parse(words[i + 1]), o;
     if (i + 2 != count && !(o.is_only && i + 1 == count)) usage();
@@ -98,7 +123,7 @@ static struct options read_options(int count, char **words) {
 
 int main(int count, char **words) {
     struct options o = read_options(count, words);
-    if (o.is_vectors) return run_vectors();
+    if (o.published) return run_published(o.published);
     if (o.is_sweeps) return run_sweeps(o.seed);
     return o.is_only ? run_only(&o) : run_random(&o);
 }

@@ -7,7 +7,6 @@ none.
 
 How a fault is written stands in tests/wrong/edits.py.
 """
-import os
 import pathlib
 import re
 import shutil
@@ -21,10 +20,7 @@ NATIVE = ROOT / "target" / "native"
 
 
 def run(*words):
-    # rustup puts rustc under the home directory
-    path = os.environ["PATH"] + ":" + os.environ.get("CARGO_HOME", os.path.expanduser("~/.cargo")) + "/bin"
-    words = [str(word) for word in words]
-    return subprocess.run(words, capture_output=True, text=True, cwd=ROOT, env={**os.environ, "PATH": path})
+    return subprocess.run([str(word) for word in words], capture_output=True, text=True, cwd=ROOT)
 
 
 def build(place, file, old, new):
