@@ -1,11 +1,12 @@
 /* A software Secure Hardware Extension: AES-128, CBC, CMAC, key messages, and a device that holds keys and answers commands.
  *
- * C99, and usable from C++. Link with libshe.a; the library calls nothing but memcpy, memset and the like, keeps no state of its
- * own, and needs no setting up.
+ * C99, and usable from C++. Link with libshe.a, of which there is one for x86-64 and one for 64-bit Arm under Linux; for a 32-bit
+ * controller there is none yet. The library calls nothing but memcpy, memset and the like, keeps no state of its own, and needs no
+ * setting up.
  *
  * Every function returns an answer of enum she_answer. Any answer but SHE_NO_ERROR leaves the device and every lent buffer as
- * they were, and sets a verdict or a status beside it to 0. No slot number, length, counter, flag or state is too wrong to be
- * passed: the library refuses by itself, and numbers too wide for their place are refused as what they are, never cut.
+ * they were, and sets a verdict or a status beside it to 0. Any slot number, length, counter, flags and record may be passed: the
+ * library refuses what is wrong by itself, and a number too wide for its place is refused as what it is, never cut.
  *
  * What the caller owes, as C can say it and the library cannot look:
  *   - every pointer is valid for the length given beside it, and never null, also where that length is 0;
@@ -83,7 +84,7 @@ enum {
 /* The device. It is lent to every command and changed in place, and it may be copied, compared and stored as it is. To make one,
  * hand any record to she_make. Nothing in it is believed unseen: a record that breaks the rules of a made device (a mark that is
  * neither 0 nor 1, a flag that its slot hasn't, an empty slot that isn't zero and the like) counts as not made, and every command
- * answers 12 to it. Its keys lie open in it: who can read it, has them. */
+ * answers 12 to it. Its keys lie open in it: whoever can read the record has its keys. */
 struct she_device {
     uint8_t keys[16 * SHE_SLOTS];  /* sixteen bytes a slot */
     uint32_t counters[SHE_SLOTS];  /* SECRET_KEY and RAM_KEY have none, and 0 here */
@@ -110,8 +111,8 @@ uint8_t she_cbc_encrypt(const uint8_t *key, she_length key_len, const uint8_t *i
 uint8_t she_cbc_decrypt(const uint8_t *key, she_length key_len, const uint8_t *iv, she_length iv_len,
                         const uint8_t *in, she_length in_len, uint8_t *out, she_length out_len);
 
-/* CMAC of the first `bits` bits of a message, 0 to 524,288. The message lent has 16 * max(1, bits / 128 rounded up) bytes, of
- * which those after `bits` don't count; 16 bytes out. */
+/* CMAC of the first `bits` bits of a message, 0 to 524,288. The message lent has 16 * max(1, bits / 128 rounded up) bytes;
+ * what stands in it after `bits` doesn't count. 16 bytes out. */
 uint8_t she_cmac(const uint8_t *key, she_length key_len, uint64_t bits, const uint8_t *message, she_length message_len,
                  uint8_t *out, she_length out_len);
 

@@ -1,4 +1,7 @@
--- The two mixings of a column: each undoes the other, and how the engine computes them. All are sums of doublings.
+-- The two mixings of a column: each undoes the other, and how the engine computes them. All are sums of doublings. With the
+-- coefficients as sums of doublings, all four facts are equal sums: each mixing undoes the other, and what the engine
+-- computes is each mixing. They are found by `simp linear`, one rule set that brings any sum of products and doublings into
+-- one order. There is no test over columns.
 -- Assumes nothing.
 use mathlib.Core.Path.{_≡_, ap, _∙_}
 use mathlib.Core.List.{List, [], _∷_}

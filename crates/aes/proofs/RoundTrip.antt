@@ -1,4 +1,6 @@
--- InvCipher undoes Cipher and Cipher undoes InvCipher, for every key and every block of 16 bytes: of the definitions.
+-- InvCipher undoes Cipher and Cipher undoes InvCipher, for every key and every block of 16 bytes: of the definitions. A
+-- round, then n rounds, then the cipher are chains of steps, so both directions come out at once. InvCipher groups its steps
+-- otherwise than Cipher undone step by step; `regrouped` joins the two.
 -- Assumes nothing.
 use mathlib.Core.Path.{_≡_, refl, ap, fun-ext, subst⁻¹}
 use mathlib.Core.List.{List}

@@ -1,4 +1,5 @@
--- The S-box read from a table, a turn of the loops over the rounds, there and back, and the cipher by its schedule.
+-- The S-box read from a table, a turn of the loops over the rounds, there and back, and the cipher by its schedule. The loops
+-- keep "rounds 1 to r are done" on the way there, and "rounds r to 1 are left" on the way back.
 -- Assumes nothing.
 use mathlib.Core.Path.{_≡_, refl, sym, ap, _∙_}
 use mathlib.Core.List.{List}

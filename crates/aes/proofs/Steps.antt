@@ -1,4 +1,6 @@
--- The steps of a round keep blocks blocks, and each is undone by its inverse, both ways.
+-- The steps of a round keep blocks blocks, and each is undone by its inverse, both ways. `Inverses f g` says that f and g
+-- keep blocks blocks and undo one another. It holds of the four pairs of steps, and `chain` makes it of one step after
+-- another.
 -- Assumes nothing.
 use mathlib.Core.Path.{_≡_, refl, ap, _∙_}
 use mathlib.Core.List.{List, [], _∷_, _++_}

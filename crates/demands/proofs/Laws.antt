@@ -1,4 +1,5 @@
--- The law of every call: what of it is not said by its account alone. The theorems about all calls follow from these.
+-- The law of every call: what of it is not said by its account alone. The theorems about all calls follow from these. This is
+-- the one table by calls in the proofs. The calls that use a slot share one law, and so do those that change nothing.
 -- Assumes nothing.
 use mathlib.Core.Path.{_≡_, refl, sym}
 use mathlib.Core.Bool.{Bool, true, false}

@@ -1,4 +1,5 @@
--- The third demand's second sentence holds of the device, over any sequence of calls.
+-- The third demand's second sentence holds of the device, over any sequence of calls. One step goes by the law of its call;
+-- the statements about runs are inductions over it.
 -- Assumes nothing.
 use mathlib.Core.Path.{_≡_, refl, sym, ap, ap₂, _∙_, subst}
 use mathlib.Core.Bool.{Bool, true, false, cond, _&&_, true≢false}

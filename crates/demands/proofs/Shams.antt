@@ -1,4 +1,5 @@
--- No sham device meets the demands.
+-- No sham device meets the demands. There is a load on the board that any machine must take if it meets the third demand, and
+-- a slot that any must use: each sham does something else there.
 -- Assumes nothing.
 use mathlib.Core.Path.{_≡_, refl, sym, ap, ap₂, _∙_, subst}
 use mathlib.Core.Bool.{true, false, false≢true}

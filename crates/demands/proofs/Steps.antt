@@ -1,5 +1,6 @@
 -- Every call is one shape: the first fault that its order gives, what was lent as it was where there is one, and what is done
--- where there is none.
+-- where there is none. That is so by definition: every call is `perform` of an account. What holds of every call is shown
+-- once, from its account and its law.
 -- Assumes nothing.
 use mathlib.Core.Path.{_≡_, refl, sym, ap, _∙_, subst⁻¹}
 use mathlib.Core.Bool.{not}

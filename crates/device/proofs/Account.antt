@@ -1,4 +1,5 @@
 -- The two outcomes of a call, from the answer that it found: refused, and done; and the checks that all calls begin with.
+-- `is-refused` and `is-done`, of any account, close the proof of every command.
 -- Assumes nothing.
 use mathlib.Core.Path.{_≡_, refl, sym, ap, ap₂, _∙_, subst}
 use mathlib.Core.Bool.{Bool, true, false, not, cond}

@@ -1,4 +1,5 @@
--- What a success of a call does to a made device: each call has one law that says it.
+-- What a success of a call does to a made device: each call has one law that says it. It stays made, keeps its UID, and its
+-- slots that are not volatile are as they were or loaded with a greater counter.
 -- Assumes nothing.
 use mathlib.Core.Path.{_≡_, refl}
 use mathlib.Core.Bool.{true}

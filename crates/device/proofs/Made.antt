@@ -1,4 +1,6 @@
--- What a made record is, fact by fact; and which changes keep it made.
+-- What a made record is, fact by fact; and which changes keep it made. What a made record is, is said of its UID, its slots
+-- and its marks as such, and not of the record; so a change of anything else leaves the very same fact, and none is listed
+-- again. Two marks are tied to something else, and these ties are shown for each change that touches one.
 -- Assumes nothing.
 use mathlib.Core.Path.{_≡_, refl, sym, ap, _∙_, subst}
 use mathlib.Core.Bool.{Bool, true, false, not, _&&_, _||_, or-true}

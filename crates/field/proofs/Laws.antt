@@ -1,5 +1,8 @@
 -- The laws of GF(2^8): sums and products by a fixed byte, the inverse, and that the S-box and its inverse undo each other.
--- What is a fact about 256 bytes is computed, once for each.
+-- What is a fact about 256 bytes is computed, once for each. Doubling and products by a fixed byte are linear. The facts
+-- about 256 bytes are the S-box table, its inverse, that `mul a (inverse a)` is 1, that the inverse taken twice is the
+-- identity, and the affine map there and back. The tables of the code are compared with their rules by one test each, and no
+-- proof lists them again.
 -- Assumes nothing.
 use mathlib.Core.Path.{_≡_, refl, sym, ap, ap₂, _∙_, subst}
 use mathlib.Core.List.{List}

@@ -1,4 +1,4 @@
--- What the test of lengths tells of each of them.
+-- What the test of lengths tells of each of them. `each-right` gives the length of row k from the test of all rows.
 -- Assumes nothing.
 use mathlib.Core.Path.{_≡_, refl}
 use mathlib.Core.Bool.{Bool, true}

@@ -1,4 +1,5 @@
--- A loop that pastes into a list, and what then lies at each index.
+-- A loop that pastes into a list, and what then lies at each index. Of parts that are put one after the other, `part-put`
+-- says that what was put before, and this part, are the first n bytes.
 -- Assumes nothing.
 use Prim.Native.Nat.{ℕ, _+_, _≤_, _<_}
 use mathlib.Core.Path.{_≡_, sym, _∙_, ap, ap₂}

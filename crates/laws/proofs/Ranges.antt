@@ -1,4 +1,5 @@
--- Tables by ranges: a row that a number lies in, and one that it does not lie in.
+-- Tables by ranges: a row that a number lies in, and one that it does not lie in. A `match` gives a range for each arm.
+-- `by-row` goes the other way, from what a table says to the row that says it.
 -- Assumes nothing.
 use mathlib.Core.Path.{_≡_, refl, ap, ap₂, _∙_}
 use mathlib.Core.Bool.{Bool, true, false, cond, _&&_, and-false}

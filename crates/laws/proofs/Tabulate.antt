@@ -1,4 +1,5 @@
--- A list given by a rule: its length, its elements, and a loop that fills an array with it, from the front.
+-- A list given by a rule: its length, its elements, and a loop that fills an array with it, from the front. Such a loop keeps
+-- `take i t ≡ tabulate i rule`: `fill` is its turn and `filled` its end.
 -- Assumes nothing.
 use mathlib.Core.Path.{_≡_, refl, sym, ap, ap₂, _∙_, subst}
 use mathlib.Core.List.{List, [], _∷_, _++_}

@@ -1,5 +1,6 @@
 -- A test that is computed at every number below n, and what it then shows of each; of a table, that it follows its rule. Two
--- tests at once, and a choice by a test.
+-- tests at once, and a choice by a test. A loop that tests keeps "all below i pass" (`all-none`, `all-more`, `all-made`); the
+-- same `all` is what the tables of `field` are computed with.
 -- Assumes nothing.
 use mathlib.Core.Path.{_≡_, refl, sym, ap, ap₂, _∙_}
 use mathlib.Core.Bool.{Bool, true, false, cond, _&&_, _||_, false≢true}

@@ -1,4 +1,4 @@
--- What LOAD_KEY does to a made device.
+-- What LOAD_KEY does to a made device. That flags as kept are kept again is `and-twice` of `laws/proofs/And.antt`.
 -- Assumes nothing.
 use mathlib.Core.Path.{_≡_, refl, sym, ap, ap₂, _∙_, subst}
 use mathlib.Core.Bool.{Bool, true, false, not, cond, _||_, or-true}

@@ -1,5 +1,7 @@
 -- Building is one-to-one, and opening undoes it: M3 is right and the filler is zero exactly where some counter, flags and key
--- build these very messages, and then they are those handed back.
+-- build these very messages, and then they are those handed back. Deciphering undoes enciphering both ways (`cbc-deciphers`,
+-- `cbc-enciphers`), so M2 and its clear text determine each other; with the first block's laws that is `opens-exactly`, and
+-- that building is one-to-one.
 -- Assumes nothing.
 use mathlib.Core.Path.{_≡_, refl, sym, ap, ap₂, _∙_, subst}
 use mathlib.Core.Bool.{Bool, true, false, cond, _&&_, false≢true}

@@ -1,5 +1,6 @@
 -- The first block over any number n of flags: what was packed is read back, and what was read back packs to the block exactly
--- where the filler is zero. M4's clear block is the case of one flag, which is 1.
+-- where the filler is zero. M4's clear block is the case of one flag, which is 1. Packing and reading are quotients and
+-- remainders by powers of two, so both directions hold for every n up to 100, with no bytes in them.
 -- Assumes nothing.
 use mathlib.Core.Path.{_≡_, refl, sym, ap, _∙_, subst}
 use mathlib.Core.List.{List}

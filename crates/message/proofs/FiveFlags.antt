@@ -1,4 +1,5 @@
--- The first block with its five flags, byte by byte: the shifts and masks of the code.
+-- The first block with its five flags, byte by byte: the shifts and masks of the code. `FirstBlock.antt` has the block as one
+-- number; here that number is taken apart into bytes.
 -- Assumes nothing.
 use mathlib.Core.Path.{_≡_, refl, sym, ap, ap₂, _∙_, subst}
 use mathlib.Core.Bool.{Bool, true, false, _&&_, true≢false}

@@ -1,4 +1,5 @@
--- The tables of the slots, range by range.
+-- The tables of the slots, range by range. A law for each range of each table says what the table has there, as the arms of
+-- the code's `match` ask for it.
 -- Assumes nothing.
 use mathlib.Core.Path.{_≡_}
 use mathlib.Core.Bool.{Bool, true, false, cond, _||_, false≢true}

@@ -1,4 +1,5 @@
--- CBC decryption undoes CBC encryption and the reverse; both keep a text's length; and the last state of each.
+-- CBC decryption undoes CBC encryption and the reverse; both keep a text's length; and the last state of each. The round trip
+-- is an induction over the blocks, from `Inverses` of the cipher.
 -- Assumes nothing.
 use mathlib.Core.Path.{_≡_, refl, sym, ap, ap₂, _∙_, subst}
 use mathlib.Core.List.{List, [], _∷_, _++_, append-nil, flatten, foldl}

@@ -1,4 +1,5 @@
--- Only the bits that count have an influence on a MAC: two messages that agree in them have one MAC.
+-- Only the bits that count have an influence on a MAC: two messages that agree in them have one MAC. Bytes that agree in
+-- their first bits agree when divided, so the parts of the message that the definition reads are equal.
 -- Assumes nothing.
 use mathlib.Core.Path.{_≡_, sym, ap, ap₂, _∙_}
 use mathlib.Core.List.{List, [], _∷_, _++_, foldl}

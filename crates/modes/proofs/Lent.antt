@@ -1,4 +1,5 @@
 -- Lent buffers: what a test of their lengths tells, a whole one loaded or stored, and the two outcomes of a routine.
+-- `refused` and `done` serve every routine of the modes that refuses.
 -- Assumes nothing.
 use mathlib.Core.Path.{_≡_, refl, _∙_}
 use mathlib.Core.Bool.{Bool, true, false}

@@ -1,4 +1,5 @@
--- CMAC's doubling and padding of a block are the doubling and padding of its number.
+-- CMAC's doubling and padding of a block are the doubling and padding of its number. From the number of two lists after each
+-- other, of an exclusive or, and of a shifted list; with no test over values.
 -- Assumes nothing.
 use mathlib.Core.Path.{_≡_, refl, sym, ap, ap₂, _∙_, subst}
 use mathlib.Core.Bool.{cond}

@@ -1,4 +1,7 @@
--- Loops that go through a text block by block: a turn, and the end, for whatever is computed of each block.
+-- Loops that go through a text block by block: a turn, and the end, for whatever is computed of each block. A loop that
+-- writes keeps "what is written before `at`, and what the blocks from there give, is the whole"; one that only carries keeps
+-- the fold over the blocks from `at`. The turn and the end are proved once, for any step, and cited by all loops of the
+-- modes.
 -- Assumes nothing.
 use mathlib.Core.Path.{_≡_, sym, ap, ap₂, _∙_}
 use mathlib.Core.List.{List, [], _++_, append-nil, append-assoc, flatten, foldl}

@@ -1,4 +1,5 @@
--- Texts of whole blocks, as lists of blocks and back; the exclusive or of blocks.
+-- Texts of whole blocks, as lists of blocks and back; the exclusive or of blocks. Parsing and flattening undo one another on
+-- whole blocks, so a round trip of texts is one of lists of blocks.
 -- Assumes nothing.
 use mathlib.Core.Path.{_≡_, refl, ap, ap₂, _∙_, subst⁻¹}
 use mathlib.Core.List.{List, [], _∷_, _++_, flatten}

@@ -1,5 +1,9 @@
--- What the proofs of the routines that take the record in place have in common: the words of the kit's logic in which a walk is
--- written, and what is known of the reply that a command hands back. Written by tools/in_place.py.
+-- What the proofs of the routines that take the record in place have in common: the words of the kit's logic in which a walk
+-- is written, and what is known of the reply that a command hands back. The prover has no walk of its own for a reference to
+-- a struct, so these routines are walked by hand: the borrow is opened, the record copied out, the command's promise cited,
+-- its record stored, the borrow closed. The record stays one value throughout, whatever its fields are, so that another field
+-- changes none of these proofs. All that differs is where in memory each local is found. Written by tools/in_place.py, as
+-- they are.
 -- Assumes nothing.
 use Prim.Native.Nat.{_<_, _^_}
 use mathlib.Core.List.{[], _∷_, List}

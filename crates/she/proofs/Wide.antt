@@ -1,5 +1,6 @@
--- Wide numbers. Where a number is wider than its place, a definition refuses it and the largest of the place alike; so it says the
--- same of a number and of the number saturated.
+-- Wide numbers. Where a number is wider than its place, a definition refuses it and the largest of the place alike; so it
+-- says the same of a number and of the number saturated. `saturates` says so in general: what is the same for the limit and
+-- for every number above it is the same for a number and for it saturated.
 -- Assumes nothing.
 use mathlib.Core.Path.{_≡_, refl, sym, ap, _∙_}
 use mathlib.Core.Bool.{Bool, true, false, not, cond, _&&_, and-false}
