@@ -3,8 +3,6 @@
 //! The only numbers written here are those by which FIPS 197 defines the cipher: the field's polynomial, the affine map's matrix
 //! row and constant, and the polynomial of MixColumns. Every table is computed from them when it is first asked for.
 
-use std::sync::OnceLock;
-
 pub type Block = [u8; 16];
 
 const ROUNDS: usize = 10;
@@ -57,8 +55,8 @@ struct Tables {
 }
 
 fn tables() -> &'static Tables {
-    static TABLES: OnceLock<Tables> = OnceLock::new();
-    TABLES.get_or_init(compute_tables)
+    thread_local!(static TABLES: &'static Tables = Box::leak(Box::new(compute_tables())));
+    TABLES.with(|tables| *tables)
 }
 
 fn compute_tables() -> Tables {
@@ -80,7 +78,7 @@ fn multiples(factor: u8) -> Table {
 
 /// A key with its schedule.
 pub struct Aes {
-    round_keys: [Block; ROUNDS + 1],
+    pub round_keys: [Block; ROUNDS + 1],
     tables: &'static Tables,
 }
 

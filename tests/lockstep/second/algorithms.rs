@@ -4,8 +4,8 @@ use crate::aes::{Aes, Block};
 use crate::answer::{demand, exactly, Answer, Refusal};
 use crate::modes::{self, blocks_of_bits};
 
-const MAX_BLOCKS: usize = 4096;
-const MAX_BITS: u64 = 524_288;
+pub const MAX_BLOCKS: usize = 4096;
+pub const MAX_BITS: u64 = 524_288;
 
 #[derive(Clone, Copy)]
 pub enum Way {
@@ -67,5 +67,13 @@ pub fn kdf(key: &[u8], constant: &[u8], output: &mut [u8]) -> Answer<()> {
     let (key, constant) = (exactly(key)?, exactly(constant)?);
     demand(output.len() == 16, Refusal::GeneralError)?;
     output.copy_from_slice(&modes::kdf(&key, &constant));
+    Ok(())
+}
+
+/// The compression carried on from an earlier output, over whole blocks or none.
+pub fn compression(earlier: &[u8], text: &[u8], output: &mut [u8]) -> Answer<()> {
+    let earlier = exactly(earlier)?;
+    demand(text.len() % 16 == 0 && output.len() == 16, Refusal::GeneralError)?;
+    output.copy_from_slice(&modes::compress_on(&earlier, text));
     Ok(())
 }

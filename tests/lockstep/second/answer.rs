@@ -1,4 +1,4 @@
-//! The numbers of the answers (house), and the one check that every routine begins with.
+//! The numbers of the answers (house) and their names, and the one check that every routine begins with.
 
 /// Why a call is refused. Success is `Ok`, and number 0 outside.
 #[derive(Clone, Copy, Debug, PartialEq, Eq)]
@@ -13,7 +13,29 @@ pub enum Refusal {
     GeneralError = 12,
 }
 
+impl Refusal {
+    pub fn name(self) -> &'static str {
+        match self {
+            Refusal::SequenceError => "SEQUENCE_ERROR",
+            Refusal::KeyNotAvailable => "KEY_NOT_AVAILABLE",
+            Refusal::KeyInvalid => "KEY_INVALID",
+            Refusal::KeyEmpty => "KEY_EMPTY",
+            Refusal::KeyWriteProtected => "KEY_WRITE_PROTECTED",
+            Refusal::KeyUpdateError => "KEY_UPDATE_ERROR",
+            Refusal::RngSeed => "RNG_SEED",
+            Refusal::GeneralError => "GENERAL_ERROR",
+        }
+    }
+}
+
 pub type Answer<T> = Result<T, Refusal>;
+
+pub fn number<T>(answer: &Answer<T>) -> u8 {
+    match answer {
+        Ok(_) => 0,
+        Err(refusal) => *refusal as u8,
+    }
+}
 
 /// Refuses for `reason` unless the condition holds. A chain of these with `?` is an order of checks as the paper gives it.
 pub fn demand(holds: bool, reason: Refusal) -> Answer<()> {

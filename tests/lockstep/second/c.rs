@@ -4,32 +4,17 @@
 //! written to overlaps anything else. A length has 64 bits there and is a `usize` here, so that this is for machines of 64 bits.
 
 use crate::algorithms::{self, Way};
-use crate::answer::{Answer, Refusal};
+use crate::answer::{number, Answer};
 use crate::device::{Device, Record};
 use crate::messages::{self, Order, ProofRoom, UpdateRoom};
 use std::slice::{from_raw_parts as lent, from_raw_parts_mut as room};
 
 const _: () = assert!(usize::BITS == 64);
 
-fn number<T>(answer: &Answer<T>) -> u8 {
-    match answer {
-        Ok(_) => 0,
-        Err(refusal) => *refusal as u8,
-    }
-}
-
 /// The number, and a verdict or a status beside it, which is 0 where the call is refused.
 unsafe fn number_and_byte(answer: Answer<u8>, byte: *mut u8) -> u8 {
     *byte = answer.unwrap_or(0);
     number(&answer)
-}
-
-/// A command works on a copy, which goes into the record only where the command succeeds.
-unsafe fn command<T>(record: *mut Record, act: impl FnOnce(&mut Device) -> Answer<T>) -> Answer<T> {
-    let mut device = Device::read(&*record).ok_or(Refusal::GeneralError)?;
-    let given = act(&mut device)?;
-    device.write(&mut *record);
-    Ok(given)
 }
 
 // ---- algorithms
@@ -132,119 +117,126 @@ pub unsafe extern "C" fn second_write_proof(
 
 #[no_mangle]
 pub unsafe extern "C" fn second_make(
-    device: *mut Record, uid: *const u8, uid_len: usize, secret_key: *const u8, secret_key_len: usize, seed: *const u8,
+    device: &mut Record, uid: *const u8, uid_len: usize, secret_key: *const u8, secret_key_len: usize, seed: *const u8,
     seed_len: usize,
 ) -> u8 {
     let made = Device::make(lent(uid, uid_len), lent(secret_key, secret_key_len), lent(seed, seed_len));
     if let Ok(new) = &made {
-        new.write(&mut *device);
+        new.write(device);
     }
     number(&made)
 }
 
 #[no_mangle]
-pub unsafe extern "C" fn second_reset(device: *mut Record) -> u8 {
-    number(&command(device, |d| d.reset()))
+pub unsafe extern "C" fn second_reset(device: &mut Record) -> u8 {
+    number(&device.command(|d| d.reset()))
 }
 
 #[no_mangle]
-pub unsafe extern "C" fn second_attach_debugger(device: *mut Record) -> u8 {
-    number(&command(device, |d| d.attach_debugger()))
+pub unsafe extern "C" fn second_attach_debugger(device: &mut Record) -> u8 {
+    number(&device.command(|d| d.attach_debugger()))
 }
 
 #[no_mangle]
 pub unsafe extern "C" fn second_enc_ecb(
-    device: *mut Record, slot: u32, input: *const u8, input_len: usize, out: *mut u8, out_len: usize,
+    device: &mut Record, slot: u32, input: *const u8, input_len: usize, out: *mut u8, out_len: usize,
 ) -> u8 {
-    number(&command(device, |d| d.ecb(Way::Encrypt, slot, lent(input, input_len), room(out, out_len))))
+    number(&device.command(|d| d.ecb(Way::Encrypt, slot, lent(input, input_len), room(out, out_len))))
 }
 
 #[no_mangle]
 pub unsafe extern "C" fn second_dec_ecb(
-    device: *mut Record, slot: u32, input: *const u8, input_len: usize, out: *mut u8, out_len: usize,
+    device: &mut Record, slot: u32, input: *const u8, input_len: usize, out: *mut u8, out_len: usize,
 ) -> u8 {
-    number(&command(device, |d| d.ecb(Way::Decrypt, slot, lent(input, input_len), room(out, out_len))))
+    number(&device.command(|d| d.ecb(Way::Decrypt, slot, lent(input, input_len), room(out, out_len))))
 }
 
 #[no_mangle]
 pub unsafe extern "C" fn second_enc_cbc(
-    device: *mut Record, slot: u32, iv: *const u8, iv_len: usize, input: *const u8, input_len: usize, out: *mut u8,
+    device: &mut Record, slot: u32, iv: *const u8, iv_len: usize, input: *const u8, input_len: usize, out: *mut u8,
     out_len: usize,
 ) -> u8 {
-    number(&command(device, |d| d.cbc(Way::Encrypt, slot, lent(iv, iv_len), lent(input, input_len), room(out, out_len))))
+    number(&device.command(|d| d.cbc(Way::Encrypt, slot, lent(iv, iv_len), lent(input, input_len), room(out, out_len))))
 }
 
 #[no_mangle]
 pub unsafe extern "C" fn second_dec_cbc(
-    device: *mut Record, slot: u32, iv: *const u8, iv_len: usize, input: *const u8, input_len: usize, out: *mut u8,
+    device: &mut Record, slot: u32, iv: *const u8, iv_len: usize, input: *const u8, input_len: usize, out: *mut u8,
     out_len: usize,
 ) -> u8 {
-    number(&command(device, |d| d.cbc(Way::Decrypt, slot, lent(iv, iv_len), lent(input, input_len), room(out, out_len))))
+    number(&device.command(|d| d.cbc(Way::Decrypt, slot, lent(iv, iv_len), lent(input, input_len), room(out, out_len))))
 }
 
 #[no_mangle]
 pub unsafe extern "C" fn second_generate_mac(
-    device: *mut Record, slot: u32, bits: u64, message: *const u8, message_len: usize, mac: *mut u8, mac_len: usize,
+    device: &mut Record, slot: u32, bits: u64, message: *const u8, message_len: usize, mac: *mut u8, mac_len: usize,
 ) -> u8 {
-    number(&command(device, |d| d.generate_mac(slot, bits, lent(message, message_len), room(mac, mac_len))))
+    number(&device.command(|d| d.generate_mac(slot, bits, lent(message, message_len), room(mac, mac_len))))
 }
 
 #[no_mangle]
 pub unsafe extern "C" fn second_verify_mac(
-    device: *mut Record, slot: u32, bits: u64, message: *const u8, message_len: usize, mac: *const u8, mac_len: usize,
+    device: &mut Record, slot: u32, bits: u64, message: *const u8, message_len: usize, mac: *const u8, mac_len: usize,
     mac_bits: u32, verdict: *mut u8,
 ) -> u8 {
-    let answer = command(device, |d| d.verify_mac(slot, bits, lent(message, message_len), lent(mac, mac_len), mac_bits));
+    let answer = device.command(|d| d.verify_mac(slot, bits, lent(message, message_len), lent(mac, mac_len), mac_bits));
     number_and_byte(answer.map(u8::from), verdict)
 }
 
 #[no_mangle]
 pub unsafe extern "C" fn second_load_key(
-    device: *mut Record, m1: *const u8, m1_len: usize, m2: *const u8, m2_len: usize, m3: *const u8, m3_len: usize, m4: *mut u8,
+    device: &mut Record, m1: *const u8, m1_len: usize, m2: *const u8, m2_len: usize, m3: *const u8, m3_len: usize, m4: *mut u8,
     m4_len: usize, m5: *mut u8, m5_len: usize,
 ) -> u8 {
     let mut proof = ProofRoom { m4: room(m4, m4_len), m5: room(m5, m5_len) };
-    number(&command(device, |d| d.load_key(lent(m1, m1_len), lent(m2, m2_len), lent(m3, m3_len), &mut proof)))
+    number(&device.command(|d| d.load_key(lent(m1, m1_len), lent(m2, m2_len), lent(m3, m3_len), &mut proof)))
 }
 
 #[no_mangle]
-pub unsafe extern "C" fn second_load_plain_key(device: *mut Record, key: *const u8, key_len: usize) -> u8 {
-    number(&command(device, |d| d.load_plain_key(lent(key, key_len))))
+pub unsafe extern "C" fn second_load_plain_key(device: &mut Record, key: *const u8, key_len: usize) -> u8 {
+    number(&device.command(|d| d.load_plain_key(lent(key, key_len))))
 }
 
 #[no_mangle]
 pub unsafe extern "C" fn second_export_ram_key(
-    device: *mut Record, m1: *mut u8, m1_len: usize, m2: *mut u8, m2_len: usize, m3: *mut u8, m3_len: usize, m4: *mut u8,
+    device: &mut Record, m1: *mut u8, m1_len: usize, m2: *mut u8, m2_len: usize, m3: *mut u8, m3_len: usize, m4: *mut u8,
     m4_len: usize, m5: *mut u8, m5_len: usize,
 ) -> u8 {
     let mut update = UpdateRoom { m1: room(m1, m1_len), m2: room(m2, m2_len), m3: room(m3, m3_len) };
     let mut proof = ProofRoom { m4: room(m4, m4_len), m5: room(m5, m5_len) };
-    number(&command(device, |d| d.export_ram_key(&mut update, &mut proof)))
+    number(&device.command(|d| d.export_ram_key(&mut update, &mut proof)))
 }
 
 #[no_mangle]
-pub unsafe extern "C" fn second_init_rng(device: *mut Record) -> u8 {
-    number(&command(device, |d| d.init_rng()))
+pub unsafe extern "C" fn second_init_rng(device: &mut Record) -> u8 {
+    number(&device.command(|d| d.init_rng()))
 }
 
 #[no_mangle]
-pub unsafe extern "C" fn second_extend_seed(device: *mut Record, entropy: *const u8, entropy_len: usize) -> u8 {
-    number(&command(device, |d| d.extend_seed(lent(entropy, entropy_len))))
+pub unsafe extern "C" fn second_extend_seed(device: &mut Record, entropy: *const u8, entropy_len: usize) -> u8 {
+    number(&device.command(|d| d.extend_seed(lent(entropy, entropy_len))))
 }
 
 #[no_mangle]
-pub unsafe extern "C" fn second_rnd(device: *mut Record, out: *mut u8, out_len: usize) -> u8 {
-    number(&command(device, |d| d.rnd(room(out, out_len))))
+pub unsafe extern "C" fn second_rnd(device: &mut Record, out: *mut u8, out_len: usize) -> u8 {
+    number(&device.command(|d| d.rnd(room(out, out_len))))
 }
 
 #[no_mangle]
-pub unsafe extern "C" fn second_get_status(device: *mut Record, status: *mut u8) -> u8 {
-    number_and_byte(command(device, |d| Ok(d.status())), status)
+pub unsafe extern "C" fn second_get_status(device: &mut Record, status: *mut u8) -> u8 {
+    number_and_byte(device.command(|d| Ok(d.status())), status)
 }
 
 #[no_mangle]
 pub unsafe extern "C" fn second_get_id(
-    device: *mut Record, challenge: *const u8, challenge_len: usize, out: *mut u8, out_len: usize,
+    device: &mut Record, challenge: *const u8, challenge_len: usize, out: *mut u8, out_len: usize,
 ) -> u8 {
-    number(&command(device, |d| d.get_id(lent(challenge, challenge_len), room(out, out_len))))
+    number(&device.command(|d| d.get_id(lent(challenge, challenge_len), room(out, out_len))))
+}
+
+// ---- a rule by itself, for those who draw records and messages
+
+#[no_mangle]
+pub extern "C" fn second_flags_of(slot: u32) -> u8 {
+    messages::flags_of(slot)
 }

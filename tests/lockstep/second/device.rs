@@ -7,7 +7,7 @@ use crate::aes::{Aes, Block};
 use crate::algorithms::{check_cbc, check_mac, many_blocks, one_block, Way};
 use crate::answer::{demand, exactly, Answer, Refusal};
 use crate::messages::*;
-use crate::modes::{cmac, cmac_of_blocks, compress, kdf, PRNG_EXTENSION_C, PRNG_KEY_C, PRNG_SEED_KEY_C};
+use crate::modes::{cmac, cmac_of_blocks, extend, kdf, PRNG_KEY_C, PRNG_SEED_KEY_C};
 
 const MARKS: usize = 7;
 
@@ -64,6 +64,27 @@ fn mark(byte: u8) -> Option<bool> {
 }
 
 impl Record {
+    /// All zero, and not made.
+    pub const BLANK: Record = Record {
+        keys: [0; 16 * SLOTS],
+        counters: [0; SLOTS],
+        flags: [0; SLOTS],
+        empty: [0; SLOTS],
+        uid: [0; 15],
+        seed: [0; 16],
+        state: [0; 16],
+        rngkey: [0; 16],
+        marks: [0; MARKS],
+    };
+
+    /// A command works on a copy, which goes into the record only where the command succeeds.
+    pub fn command<T>(&mut self, act: impl FnOnce(&mut Device) -> Answer<T>) -> Answer<T> {
+        let mut device = Device::read(self).ok_or(Refusal::GeneralError)?;
+        let given = act(&mut device)?;
+        device.write(self);
+        Ok(given)
+    }
+
     fn key_bytes(&self, slot: usize) -> Block {
         std::array::from_fn(|i| self.keys[16 * slot + i])
     }
@@ -86,8 +107,7 @@ impl Record {
             let blank = bytes == [0; 16] && counter == 0 && flags == 0 && !plain;
             return (number != SECRET_KEY && blank).then_some(None);
         }
-        let has_counter = number != SECRET_KEY && number != RAM_KEY;
-        let sound = counter <= if has_counter { MAX_COUNTER } else { 0 } && flags & !flags_of(number) == 0;
+        let sound = counter <= if has_counter(number) { MAX_COUNTER } else { 0 } && flags & !flags_of(number) == 0;
         sound.then_some(Some(Key { bytes, counter, flags, plain }))
     }
 
@@ -123,7 +143,7 @@ impl Device {
             record.empty[number] = slot.is_none().into();
         }
         let random = self.random.unwrap_or(Random { state: [0; 16], key: [0; 16] });
-        let plain = self.slots[RAM_KEY as usize].is_some_and(|key| key.plain);
+        let plain = self.slots[RAM_KEY as usize].map_or(false, |key| key.plain);
         let [fifth, sixth, seventh] = self.unnamed;
         record.uid = self.uid;
         record.seed = self.seed;
@@ -229,10 +249,11 @@ impl Device {
     fn authority_key(&self, head: &Head) -> Answer<Block> {
         demand(is_allowed(head.target, head.authority), Refusal::KeyInvalid)?;
         demand(self.flags(head.target) & WRITE == 0, Refusal::KeyWriteProtected)?;
-        let Some(key) = self.slots[head.authority as usize] else {
-            demand(head.authority == head.target, Refusal::KeyEmpty)?;
+        let authority = self.slots[head.authority as usize];
+        if authority.is_none() && head.authority == head.target {
             return Ok([0xFF; 16]);
-        };
+        }
+        let key = authority.ok_or(Refusal::KeyEmpty)?;
         demand(!self.is_locked(&key), Refusal::KeyNotAvailable)?;
         Ok(key.bytes)
     }
@@ -288,8 +309,8 @@ impl Device {
     pub fn extend_seed(&mut self, entropy: &[u8]) -> Answer<()> {
         let entropy = exactly(entropy)?;
         let random = self.random.as_mut().ok_or(Refusal::RngSeed)?;
-        random.state = compress(&[random.state, entropy, PRNG_EXTENSION_C]);
-        self.seed = compress(&[self.seed, entropy, PRNG_EXTENSION_C]);
+        random.state = extend(&random.state, &entropy);
+        self.seed = extend(&self.seed, &entropy);
         Ok(())
     }
 
@@ -326,7 +347,7 @@ impl Device {
 
 /// Table 4.4, for the commands that name a slot.
 #[derive(Clone, Copy, PartialEq)]
-enum Role {
+pub enum Role {
     Cipher,
     Generate,
     Verify,
@@ -338,7 +359,7 @@ impl Role {
     }
 
     /// Whether the slot, whatever its flags, can have this role at all.
-    fn is_open_to(self, slot: u32) -> bool {
+    pub fn is_open_to(self, slot: u32) -> bool {
         is_key_n(slot) || slot == RAM_KEY || self == Role::Verify && slot == BOOT_MAC_KEY
     }
 }

@@ -32,6 +32,11 @@ pub fn is_key_n(slot: u32) -> bool {
     (KEY_1..=KEY_10).contains(&slot)
 }
 
+/// 4.4: SECRET_KEY has no counter, and neither has RAM_KEY.
+pub fn has_counter(slot: u32) -> bool {
+    (MASTER_ECU_KEY..=KEY_10).contains(&slot)
+}
+
 /// Table 4.3: the flags that a slot has. Others are accepted in a message and stored as 0.
 pub fn flags_of(slot: u32) -> u8 {
     match slot {
@@ -55,11 +60,7 @@ pub fn is_allowed(target: u32, authority: u32) -> bool {
 
 /// The counter and the flags with which a slot is left by a message that says these. RAM_KEY has neither (4.9.1, last sentence).
 pub fn as_kept(target: u32, counter: u32, flags: u8) -> (u32, u8) {
-    if target == RAM_KEY {
-        (0, 0)
-    } else {
-        (counter, flags & flags_of(target))
-    }
+    (if has_counter(target) { counter } else { 0 }, flags & flags_of(target))
 }
 
 /// What the first block of M2 says (4.9.1): 28 bits counter, five flags, and 95 bits that ought to be zero.

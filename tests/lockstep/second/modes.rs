@@ -29,9 +29,10 @@ fn blocks(text: &[u8]) -> impl Iterator<Item = Block> + '_ {
     text.chunks_exact(16).map(|chunk| chunk.try_into().unwrap())
 }
 
-/// How many blocks a message of this many bits has. SP 800-38B, 6.2, step 2: the empty message has one.
+/// How many blocks a message of this many bits has: that of its last bit and those before it. SP 800-38B, 6.2, step 2: the empty
+/// message has one.
 pub fn blocks_of_bits(bits: u64) -> u64 {
-    bits.div_ceil(128).max(1)
+    bits.saturating_sub(1) / 128 + 1
 }
 
 /// SP 800-38B, 6.2. The message lent has `blocks_of_bits(bits)` whole blocks; what it holds after `bits` doesn't count.
@@ -45,16 +46,22 @@ pub fn cmac(key: &Block, bits: u64, message: &[u8]) -> Block {
 
 /// SP 800-38B, 6.2, step 4: a complete last block is masked with K1, another is ended by a 1 and zeros and masked with K2.
 fn last_block(aes: &Aes, bits: u64, block: Block) -> Block {
-    let subkey_1 = double(aes.encrypt(&[0; 16]));
+    let [subkey_1, subkey_2] = subkeys(aes);
     if bits == 128 {
         return xor(&block, &subkey_1);
     }
     let kept = !(u128::MAX >> bits);
     let one = 1 << 127 >> bits;
-    xor(&(u128::from_be_bytes(block) & kept | one).to_be_bytes(), &double(subkey_1))
+    xor(&(u128::from_be_bytes(block) & kept | one).to_be_bytes(), &subkey_2)
 }
 
-/// SP 800-38B, 6.1: a shift to the left, and R(128) = 0...010000111 added if a 1 fell out.
+/// SP 800-38B, 6.1.
+pub fn subkeys(aes: &Aes) -> [Block; 2] {
+    let subkey_1 = double(aes.encrypt(&[0; 16]));
+    [subkey_1, double(subkey_1)]
+}
+
+/// A shift to the left, and R(128) = 0...010000111 added if a 1 fell out.
 fn double(block: Block) -> Block {
     let number = u128::from_be_bytes(block);
     let carry = if number >> 127 == 1 { 0b1000_0111 } else { 0 };
@@ -66,9 +73,14 @@ pub fn cmac_of_blocks(key: &Block, message: &[u8]) -> Block {
     cmac(key, 8 * message.len() as u64, message)
 }
 
-/// 4.3.3: out(0) = 0; out(i) = AES under out(i-1) of x(i), xor x(i), xor out(i-1).
-pub fn compress(chunks: &[Block]) -> Block {
-    chunks.iter().fold([0; 16], |out, x| xor(&xor(&Aes::new(&out).encrypt(x), x), &out))
+/// 4.3.3: out(i) = AES under out(i-1) of x(i), xor x(i), xor out(i-1), carried on from an earlier output.
+pub fn compress_on(earlier: &Block, text: &[u8]) -> Block {
+    blocks(text).fold(*earlier, |out, x| xor(&xor(&Aes::new(&out).encrypt(&x), &x), &out))
+}
+
+/// 4.3.3: out(0) = 0.
+fn compress(chunks: &[Block]) -> Block {
+    compress_on(&[0; 16], &chunks.concat())
 }
 
 /// 4.3.3.1: the constants of 4.12 are padded already, so that nothing is left but to compress key and constant.
@@ -88,4 +100,9 @@ pub const PRNG_KEY_C: Block = derivation_constant(4);
 pub const PRNG_SEED_KEY_C: Block = derivation_constant(5);
 
 /// 4.5.3: the padding of 4.3.3 for 256 bits, as a block of its own.
-pub const PRNG_EXTENSION_C: Block = [0x80, 0, 0, 0, 0, 0, 0, 0, 0, 0, 0, 0, 0, 0, 0x01, 0x00];
+const PRNG_EXTENSION_C: Block = [0x80, 0, 0, 0, 0, 0, 0, 0, 0, 0, 0, 0, 0, 0, 0x01, 0x00];
+
+/// 4.5.3, of the seed and of the state alike.
+pub fn extend(seed: &Block, entropy: &Block) -> Block {
+    compress(&[*seed, *entropy, PRNG_EXTENSION_C])
+}
