@@ -74,7 +74,7 @@ run readme readme
 run demo demo $limit "$out/yard"
 run demo-checked demo $checked "$out/yard-checked"
 run demo-valgrind demo $memory "$out/yard"
-run openssl $limit "$out/openssl" 1
+run openssl $limit "$out/second" openssl 1
 run published $limit "$out/lockstep" published tests/published.txt
 run sweeps $limit "$out/lockstep" sweeps 1
 run sequences $limit "$out/lockstep" 1 20000

@@ -1,6 +1,7 @@
 #!/bin/sh
 # build-c.sh: builds what the tests of the C side run, into target/native/: the library for this machine (proved first), the demo,
-# the second program, its comparison with OpenSSL, and the comparison of both through include/she.h, also with gcc's checkers in it.
+# the second program by itself and as a library, and the comparison of both libraries through include/she.h, also with gcc's
+# checkers in it.
 set -eu
 cd "$(dirname "$0")/.."
 out=target/native
@@ -8,7 +9,7 @@ sh tools/native-archive.sh she
 warnings="-Wall -Wextra -Wpedantic -Werror"
 checkers="-g -O1 -fsanitize=address,undefined -fno-sanitize-recover=all"
 rustc --edition 2021 -O -C panic=abort --crate-type staticlib -D warnings tests/lockstep/second/lib.rs -o "$out/libsecond.a"
-rustc --edition 2021 -O -D warnings tests/lockstep/second/openssl.rs -o "$out/openssl"
+rustc --edition 2021 -O -D warnings tests/lockstep/second/main.rs -o "$out/second"
 compile() { # PROGRAM FLAGS SOURCE.. : every word of the flags by itself
     program=$1 flags=$2
     shift 2

@@ -1,0 +1,158 @@
+//! Random lines for `cases`: devices one after the other, from new ones with no key to such with all keys.
+
+use crate::draw::{self, allowed_pair};
+use crate::messages::MAX_COUNTER;
+use crate::modes::blocks_of_bits;
+use crate::random::Random;
+
+/// A bit that no text has.
+const NONE: u64 = 999_999;
+
+/// The largest counter.
+const MOST: u64 = MAX_COUNTER as u64;
+
+pub fn portion(seed: u64, number: u64) -> String {
+    let mut random = Random::of_part(seed, number);
+    draw::portion(std::iter::from_fn(|| Some(day(&mut random))))
+}
+
+/// All lines of one device, with a look at it in the end.
+fn day(random: &mut Random) -> String {
+    let mut lines = vec![beginning(random)];
+    if random.one_in(4) {
+        lines.extend((0..random.below(8)).map(|_| line(random)));
+        lines.push(damage(random));
+        lines.extend((0..6).map(|_| line(random)));
+    } else {
+        lines.extend((0..20 + random.below(100)).map(|_| line(random)));
+    }
+    lines.push(random.one_of(&["RECORD rows 0 to 36", "ROLES of the slots below 18", "PAIRS that are taken:"]).to_string());
+    lines.join("\n")
+}
+
+fn beginning(random: &mut Random) -> String {
+    if random.one_in(6) {
+        let (uid, bit) = (random.one_of(&[1, 2, 2]), random.below(140));
+        let [id, secret, seed] = [15, 16, 16].map(|right| length(right, random));
+        return format!("MAKE UID {uid} of {id} bytes, SECRET_KEY of {secret}, seed of {seed}, bit {bit} changed");
+    }
+    let (last, flags) = (random.one_of(&[0, 1, 5, 13]), random.one_of(&[0, 0, 2, 4, 6]));
+    format!("DEVICE with slots up to {last}, flags {flags}")
+}
+
+/// Something of the record set: mostly it no longer counts as made then. A field or a place may lie past the last.
+fn damage(random: &mut Random) -> String {
+    let (field, place, any) = (random.below(10), random.below(260), random.below(256));
+    let value = random.one_of(&[0, 1, 1, 2, 255, 256, any, MOST, MOST + 1, 1 << 32, (1 << 32) + 1]);
+    format!("SET field {field}, place {place}, to {value}")
+}
+
+fn line(random: &mut Random) -> String {
+    match random.below(44) {
+        0..=2 => one_block("ENC_ECB", random),
+        3..=4 => one_block("DEC_ECB", random),
+        5..=6 => chain("ENC_CBC", random),
+        7..=8 => chain("DEC_CBC", random),
+        9..=11 => mac(random),
+        12..=27 => load(random),
+        28..=29 => format!("LOAD_PLAIN_KEY of slot {}, {} bytes", random.below(15), length(16, random)),
+        30..=31 => export(random),
+        32..=33 => "INIT_RNG".to_string(),
+        34..=35 => format!("EXTEND_SEED with {} bytes", length(16, random)),
+        36..=37 => format!("RND of {} bytes", length(16, random)),
+        38..=39 => format!("GET_ID with {} bytes into {}", length(16, random), length(32, random)),
+        40 => "GET_STATUS".to_string(),
+        41 => "RESET".to_string(),
+        42 => "DEBUGGER attached".to_string(),
+        _ => strange(random),
+    }
+}
+
+fn slot(random: &mut Random) -> u64 {
+    let (few, any) = (random.below(16), random.below(256));
+    random.one_of(&[4, 5, 6, 14, 14, few, any])
+}
+
+/// Mostly the right one.
+fn length(right: u64, random: &mut Random) -> u64 {
+    if random.one_in(14) {
+        random.one_of(&[0, right - 1, right + 1, right + 16])
+    } else {
+        right
+    }
+}
+
+fn one_block(name: &str, random: &mut Random) -> String {
+    format!("{name} with slot {}, {} bytes into {}", slot(random), length(16, random), length(16, random))
+}
+
+fn chain(name: &str, random: &mut Random) -> String {
+    let size = 16 * random.one_of(&[1, 1, 2, 3]);
+    let (slot, input, output) = (slot(random), length(size, random), length(size, random));
+    format!("{name} with slot {slot}, {input} bytes into {output}, IV of {}", length(16, random))
+}
+
+/// A MAC, and then that it is asked for: as it is, or with a bit changed at the edge of what is compared.
+fn mac(random: &mut Random) -> String {
+    let (by, other) = (slot(random), slot(random));
+    let bits = random.one_of(&[0, 1, 7, 8, 127, 128, 129, 255, 256, 257]);
+    let size = 16 * blocks_of_bits(bits);
+    let made = format!("GENERATE_MAC with slot {by}, {} bytes into {}", length(size, random), length(16, random));
+    let compared = random.one_of(&[0, 0, 1, 8, 9, 127, 128, 255]);
+    let (last, any) = (if compared == 0 { 127 } else { compared - 1 }, random.below(128));
+    let changed = random.one_of(&[NONE, NONE, compared, last, any]);
+    let changed_late = random.one_of(&[NONE, NONE, bits, bits.max(1) - 1]);
+    let by = random.one_of(&[by, by, by, other]);
+    let asked = format!("VERIFY_MAC with slot {by}, {} bytes, MAC of {}", length(size, random), length(16, random));
+    let asked = format!("{asked}, {bits} bits, MAC length {compared}, bit {changed} changed, bit {changed_late} of the message");
+    format!("{made}, {bits} bits\n{asked}")
+}
+
+/// How much of M1 to M5 is lent, mostly left out.
+fn lengths(random: &mut Random) -> String {
+    if random.one_in(5) {
+        [16, 32, 16, 32, 16].map(|right| format!(" {}", length(right, random))).concat()
+    } else {
+        String::new()
+    }
+}
+
+fn load(random: &mut Random) -> String {
+    if random.one_in(10) {
+        return "LOAD_KEY again".to_string();
+    }
+    let (target, authority) =
+        if random.one_in(10) { (random.below(16) as u32, random.below(16) as u32) } else { allowed_pair(random) };
+    let (low, any) = (random.below(40), random.below(32));
+    let counter = random.one_of(&[0, 1, 2, 3, low, low, MOST]);
+    let flags = random.one_of(&[0, 0, 2, 3, 1, 4, 6, 13, 16, any]);
+    let uid = random.one_of(&[1, 1, 1, 0, 0, 2]);
+    let [first, sent] = [128, 512].map(|bits| if random.one_in(5) { random.below(bits) } else { NONE });
+    let asked = format!("LOAD_KEY {target} by {authority}, counter {counter}, flags {flags}, UID {uid}");
+    format!("{asked}, bits {first} and {sent} changed{}", lengths(random))
+}
+
+fn export(random: &mut Random) -> String {
+    format!("EXPORT_RAM_KEY{}", lengths(random))
+}
+
+/// Lines that nobody should write, but that both must read alike: no command, a row that isn't there, a number for which 64 bits
+/// have no room, more than twelve numbers, and none.
+fn strange(random: &mut Random) -> String {
+    let digit = random.below(10);
+    let almost_all = u64::MAX / 10 - 6 + digit;
+    let choices = [
+        "RESET, and no more".to_string(),
+        "DEBUG".to_string(),
+        format!(" RND of {digit} bytes"),
+        format!("RECORD rows 3{digit} to 40"),
+        format!("# {digit}"),
+        String::new(),
+        "LOAD_KEY 14".to_string(),
+        "GENERATE_MAC".to_string(),
+        format!("GENERATE_MAC with slot 14, 16 bytes into 16, {almost_all}{digit} bits"),
+        format!("GENERATE_MAC with slot 14, 16 bytes into 16, {}{digit} bits", u64::MAX),
+        format!("ENC_ECB with slot 1, 16 bytes into 16, 4 5 6 7 8 9 10 11 12, {digit}"),
+    ];
+    random.one_of(&choices)
+}
