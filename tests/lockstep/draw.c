@@ -8,6 +8,7 @@
 extern __typeof__(she_kdf) second_kdf;
 extern __typeof__(she_cbc_encrypt) second_cbc_encrypt;
 extern __typeof__(she_cmac) second_cmac;
+uint8_t second_flags_of(uint32_t slot); /* the flags that a slot keeps; she.h has no such function */
 
 #define LENGTH(array) (sizeof(array) / sizeof *(array))
 
@@ -113,12 +114,6 @@ static uint64_t draw_wide_flags(void) {
 
 /* ---- records */
 
-static uint8_t flags_of(size_t slot) {
-    if (slot == SHE_MASTER_ECU_KEY) return SHE_ALL_FLAGS - SHE_KEY_USAGE;
-    if (slot == SHE_BOOT_MAC_KEY || slot == SHE_BOOT_MAC) return SHE_WRITE | SHE_DEBUGGER | SHE_WILDCARD;
-    return slot >= SHE_KEY_1 && slot <= SHE_KEY_10 ? SHE_ALL_FLAGS : 0;
-}
-
 /* WRITE ends all that can happen to a slot, so it is drawn less often. */
 static uint8_t draw_flags(void) {
     uint8_t flags = (uint8_t)below(32);
@@ -149,7 +144,7 @@ static void fill_slot(struct she_device *d, size_t slot) {
         return;
     }
     d->counters[slot] = draw_stored_counter();
-    d->flags[slot] = draw_flags() & flags_of(slot);
+    d->flags[slot] = draw_flags() & second_flags_of((uint32_t)slot);
 }
 
 /* A record that many loads may have left, and with any of the marks that mean nothing yet. */
@@ -284,7 +279,7 @@ static void plan_first_block(struct plan *p, const struct she_device *d) {
     if (p->counter > SHE_MAX_COUNTER) p->counter = SHE_MAX_COUNTER;
     if (p->target != SHE_RAM_KEY && p->counter <= stored) p->traits |= NOT_NEWER;
     p->flags = draw_flags();
-    if (p->flags & ~flags_of(p->target)) p->traits |= DROPPED_FLAG;
+    if (p->flags & ~second_flags_of(p->target)) p->traits |= DROPPED_FLAG;
     memset(p->filler, 0, sizeof p->filler);
     if (!one_in(14)) return;
     flip_bit(p->filler, 1 + below(95));

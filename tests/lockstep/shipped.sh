@@ -39,6 +39,19 @@ emulated() { # NAME ARGUMENT..
     "$tools/bin/qemu-x86_64" "$lib/ld-linux-x86-64.so.2" --library-path "$lib" "$out/$name-x86-64" "$@"
 }
 
+# The flags that slots keep, as C, from the second program's lines on pairs of slots: they are the fifth byte of each.
+flags_kept() {
+    echo '#include "she.h"'
+    echo 'uint8_t second_flags_of(uint32_t slot) {'
+    echo '    static const uint8_t kept[SHE_SLOTS] = {'
+    for slot in 00 01 02 03 04 05 06 07 08 09 0a 0b 0c 0d 0e; do
+        echo "P $slot / 00"
+    done | "$out/second" vectors | sed 's/^.\{8\}\(..\).*/        0x\1,/'
+    echo '    };'
+    echo '    return slot < SHE_SLOTS ? kept[slot] : 0;'
+    echo '}'
+}
+
 same_digest() { # ARGUMENT..: of the comparison
     here=$("$out/lockstep" "$@" | sed -n 's/^digest //p')
     there=$(emulated lockstep "$@" | sed -n 's/^digest //p')
@@ -49,8 +62,9 @@ same_digest() { # ARGUMENT..: of the comparison
 }
 
 sed -n 's/^uint8_t she_\([a-z0-9_]*\)(.*/#define second_\1 she_\1/p' include/she.h >"$out/one-side.h"
+flags_kept >"$out/flags-kept.c"
 program yard demo/yard.c
-program lockstep tests/lockstep/*.c
+program lockstep tests/lockstep/*.c "$out/flags-kept.c"
 emulated yard | cmp - demo/yard.txt
 same_digest --some 4 5000
 same_digest sweeps 1
