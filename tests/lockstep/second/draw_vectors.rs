@@ -82,16 +82,8 @@ const ALGORITHMS: [Routine; 14] = [
     ('M', MAC),
 ];
 const LONG_ONES: [Routine; 2] = [('R', &[Block, Bits, Block, Count, Block]), ('L', &[Block, Block, Block, Count])];
-const KEY_MESSAGES: [Routine; 8] = [
-    ('W', WRITER),
-    ('W', WRITER),
-    ('w', WRITER),
-    ('f', WRITER),
-    ('A', PROOF),
-    ('A', PROOF),
-    ('O', OPENING),
-    ('O', OPENING),
-];
+const KEY_MESSAGES: [Routine; 8] =
+    [('W', WRITER), ('W', WRITER), ('w', WRITER), ('f', WRITER), ('A', PROOF), ('A', PROOF), ('O', OPENING), ('O', OPENING)];
 
 /// What a portion is made of. Of four lines so many have extreme operands, and so many a damaged one.
 struct Style {

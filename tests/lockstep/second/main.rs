@@ -27,13 +27,20 @@ mod text;
 mod vectors;
 
 use programs::{compare, Program};
-use std::io::Read;
+use std::io::{Read, Write};
 use std::process::exit;
 
 fn input() -> String {
     let mut text = String::new();
     std::io::stdin().read_to_string(&mut text).expect("lines of text");
     text
+}
+
+/// Whoever reads it may have had enough; what is not written whole is a failure all the same.
+fn write(text: &str) {
+    if std::io::stdout().write_all(text.as_bytes()).is_err() {
+        exit(1)
+    }
 }
 
 fn usage() -> ! {
@@ -53,11 +60,11 @@ fn program(name: &str) -> Program {
 }
 
 /// Says what a comparison found.
-fn report(found: Result<String, String>) {
+fn report(name: &str, found: Result<String, String>) {
     match found {
-        Ok(agreement) => println!("{agreement}"),
+        Ok(agreement) => println!("{name}: {agreement}"),
         Err(difference) => {
-            println!("{difference}");
+            println!("{name}: {difference}");
             exit(1)
         }
     }
@@ -67,13 +74,12 @@ fn main() {
     let words: Vec<String> = std::env::args().skip(1).collect();
     let words: Vec<&str> = words.iter().map(String::as_str).collect();
     match words[..] {
-        [name] => print!("{}", program(name).must_write(&input())),
-        ["draw", name, seed, portion] => print!("{}", program(name).draw(number(seed), number(portion))),
-        ["openssl", seed] => report(openssl::compare(number(seed))),
+        [name] => write(&program(name).must_write(&input())),
+        ["draw", name, seed, portion] => write(&program(name).draw(number(seed), number(portion))),
         ["compare", name, seed, portions, ref command @ ..] if !command.is_empty() => {
-            let found = compare(program(name), number(seed), number(portions), command);
-            report(found.map(|agreement| format!("{name}: {agreement}")))
+            report(name, compare(program(name), number(seed), number(portions), command))
         }
+        ["openssl", seed] => report("OpenSSL", openssl::compare(number(seed))),
         _ => usage(),
     }
 }

@@ -26,7 +26,7 @@ fn hold(what: &str, key: &Block, ours: &[u8], words: &[&str], input: &[u8]) -> R
     if ours == theirs {
         Ok(())
     } else {
-        Err(format!("DIFFERENCE from OpenSSL: {what} under {}", hex(key)))
+        Err(format!("DIFFERENCE: {what} under {}", hex(key)))
     }
 }
 
@@ -62,7 +62,7 @@ fn hold_cmac(random: &mut Random, length: usize) -> Result<(), String> {
 /// Says what was compared, or where there was a difference.
 pub fn compare(seed: u64) -> Result<String, String> {
     if !is_there() {
-        return Ok("no openssl on the PATH: nothing compared with it".to_string());
+        return Ok("none on the PATH, so that nothing was compared with it".to_string());
     }
     let mut random = Random::new(seed);
     for _ in 0..KEYS {
@@ -75,7 +75,7 @@ pub fn compare(seed: u64) -> Result<String, String> {
         hold_cmac(&mut random, *length)?;
     }
     Ok(format!(
-        "OpenSSL, seed {seed}: ECB and CBC agree on {} blocks each, both ways, under {KEYS} keys; CMAC agrees on {} texts",
+        "seed {seed}: ECB and CBC agree on {} blocks each, both ways, under {KEYS} keys; CMAC agrees on {} texts",
         KEYS * BLOCKS,
         lengths.len()
     ))
