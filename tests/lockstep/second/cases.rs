@@ -47,15 +47,20 @@ fn numbers_of(line: &str) -> Numbers {
     let mut numbers = [ABSENT; 12];
     let found = line.split(|c: char| !c.is_ascii_digit()).filter(|digits| !digits.is_empty());
     for (place, digits) in (0..12).cycle().zip(found) {
-        numbers[place] = digits.bytes().fold(numbers[place], |value, digit| with_digit(value, digit - b'0'));
+        numbers[place] = digits.bytes().fold(numbers[place], longer);
     }
     numbers
 }
 
 /// A number that has no room for another digit begins anew, as one that was absent does.
-fn with_digit(value: u64, digit: u8) -> u64 {
-    let has_room = value < u64::MAX / 10 - 1;
-    u64::from(digit) + if has_room { 10 * value } else { 0 }
+fn longer(number: u64, digit: u8) -> u64 {
+    let has_room = number < u64::MAX / 10 - 1;
+    u64::from(digit - b'0') + if has_room { 10 * number } else { 0 }
+}
+
+/// Of a line that has only these.
+fn only(numbers: &[u64]) -> Numbers {
+    std::array::from_fn(|place| numbers.get(place).copied().unwrap_or(ABSENT))
 }
 
 /// For a parameter of 8 bits: too large a number is the largest.
@@ -156,7 +161,7 @@ fn capital_hex(bytes: &[u8]) -> String {
     hex(bytes).to_uppercase()
 }
 
-// ---- the end of a line
+// ---- what stands after a command
 
 fn named<T>(answer: &Answer<T>) -> String {
     let name = match answer {
@@ -174,13 +179,13 @@ fn kept<T>(answer: &Answer<T>) -> &'static str {
     }
 }
 
-/// Of a command: what it gave, already written.
+/// With what the command gave, as it is to be written.
 fn end(answer: Answer<String>) -> End {
     let end = named(&answer) + kept(&answer);
     (Some(number(&answer)), end + &answer.unwrap_or_default())
 }
 
-/// Of a command that gives a number: 0 where it is refused.
+/// With the number that the command gave, and 0 where it is refused.
 fn number_end(answer: Answer<u8>) -> End {
     (Some(number(&answer)), format!("{}, gives {}{}", named(&answer), answer.unwrap_or(0), kept(&answer)))
 }
@@ -217,8 +222,7 @@ fn verify(device: &Device, block: &Block, n: &Numbers) -> Answer<bool> {
 
 /// The answers of the six commands for one slot.
 fn roles(record: &mut Record, slot: u8) -> String {
-    let mut n = [ABSENT; 12];
-    n[..5].copy_from_slice(&[slot.into(), 16, 16, 16, 0]);
+    let n = only(&[slot.into(), 16, 16, 16, 0]);
     let mut answers: Vec<u8> =
         SLOT_USERS.iter().map(|name| number(&record.command(|d| use_slot(d, name, &n, &mut filler(16))))).collect();
     answers.push(number(&record.command(|d| verify(d, &[TEXT; 16], &n))));
@@ -260,20 +264,13 @@ fn load(record: &mut Record, sent: &[u8], n: &Numbers) -> Answer<Vec<u8>> {
     Ok([m4, m5].concat())
 }
 
-/// The first four numbers of a line that has no more.
-fn four(a: u8, b: u8, c: u64, d: u64) -> Numbers {
-    let mut n = [ABSENT; 12];
-    n[..4].copy_from_slice(&[a.into(), b.into(), c, d]);
-    n
-}
-
-fn is_taken(record: &Record, slots: u8) -> bool {
-    let n = four(slots / 16, slots % 16, 2, 0);
+fn is_taken(record: &Record, slots: u64) -> bool {
+    let n = only(&[slots / 16, slots % 16, 2, 0]);
     load(&mut record.clone(), &message(record, &n), &n).is_ok()
 }
 
 fn pairs(record: &Record) -> String {
-    (0..=255).filter(|&slots| is_taken(record, slots)).map(|slots| format!(" {slots:02X}")).collect()
+    (0..256).filter(|&slots| is_taken(record, slots)).map(|slots| format!(" {slots:02X}")).collect()
 }
 
 // ---- making
@@ -289,9 +286,9 @@ fn made(n: &Numbers) -> Answer<Record> {
 
 /// A made device with slots 1 to the last loaded by slot 1. Where that is refused, the slot stays as it is.
 fn prepared(last: u8, flags: u64) -> Record {
-    let mut record = made(&four(1, 15, 16, 16)).unwrap_or(Record::BLANK);
+    let mut record = made(&only(&[1, 15, 16, 16])).unwrap_or(Record::BLANK);
     for slot in 1..=last {
-        let n = four(slot, 1, 1, flags);
+        let n = only(&[slot.into(), 1, 1, flags]);
         let sent = message(&record, &n);
         let _ = load(&mut record, &sent, &n);
     }
