@@ -20,7 +20,7 @@ run() { # NAME COMMAND..: passes where the status is 0
     fi
 }
 
-# The header alone, in every language that may include it, and for a controller of 32 bits where clang is there.
+# The header alone, in every language that may include it, and for a controller of 32 bits.
 header() {
     for language in c99 c11 c17; do
         echo '#include "she.h"' | gcc -std=$language -Wall -Wextra -Wpedantic -Werror -Iinclude -x c -fsyntax-only - || return 1
@@ -28,13 +28,9 @@ header() {
     for language in c++98 c++11 c++17; do
         echo '#include "she.h"' | g++ -std=$language -Wall -Wextra -Wpedantic -Werror -Iinclude -x c++ -fsyntax-only - || return 1
     done
-    small=
-    if command -v clang >/dev/null; then
-        echo '#include "she.h"' | clang --target=thumbv7m-none-eabi -ffreestanding -std=c99 -Wall -Wextra -Wpedantic -Werror \
-            -Iinclude -x c -fsyntax-only - || return 1
-        small=", and for a controller of 32 bits"
-    fi
-    echo "she.h compiles as C99, C11, C17, C++98, C++11 and C++17$small"
+    echo '#include "she.h"' | clang --target=thumbv7m-none-eabi -ffreestanding -std=c99 -Wall -Wextra -Wpedantic -Werror \
+        -Iinclude -x c -fsyntax-only - || return 1
+    echo "she.h compiles as C99, C11, C17, C++98, C++11 and C++17, and for a controller of 32 bits"
 }
 
 # The library asks for nothing of the program that it is linked into, but what every compiler may ask for.

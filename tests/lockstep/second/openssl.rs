@@ -1,4 +1,4 @@
-//! Holds the model's AES, CBC and CMAC to the OpenSSL command line, on random inputs from a seed.
+//! Holds the second program's AES, CBC and CMAC to the OpenSSL command line, on random inputs from a seed.
 //!
 //! One process of OpenSSL takes many blocks under one key, so that the whole ends in a few seconds.
 
@@ -7,18 +7,9 @@ use crate::modes;
 use crate::process::written_by;
 use crate::random::Random;
 use crate::text::hex;
-use std::io::ErrorKind;
-use std::process::{Command, Stdio};
 
 const KEYS: usize = 40;
 const BLOCKS: usize = 500;
-
-fn is_there() -> bool {
-    match Command::new("openssl").arg("version").stdout(Stdio::null()).status() {
-        Err(error) => error.kind() != ErrorKind::NotFound,
-        Ok(_) => true,
-    }
-}
 
 /// What OpenSSL makes of an input must be ours, or it is told.
 fn hold(what: &str, key: &Block, ours: &[u8], words: &[&str], input: &[u8]) -> Result<(), String> {
@@ -50,7 +41,7 @@ fn hold_cbc(key: &Block, iv: &Block, text: &[u8]) -> Result<(), String> {
     Ok(())
 }
 
-/// The model takes whole blocks and a length in bits; the bytes after the text are there to be ignored.
+/// Ours takes whole blocks and a length in bits; the bytes after the text are there to be ignored.
 fn hold_cmac(random: &mut Random, length: usize) -> Result<(), String> {
     let key = random.block();
     let bits = 8 * length as u64;
@@ -61,9 +52,6 @@ fn hold_cmac(random: &mut Random, length: usize) -> Result<(), String> {
 
 /// Says what was compared, or where there was a difference.
 pub fn compare(seed: u64) -> Result<String, String> {
-    if !is_there() {
-        return Ok("none on the PATH, so that nothing was compared with it".to_string());
-    }
     let mut random = Random::new(seed);
     for _ in 0..KEYS {
         let (key, iv, text) = (random.block(), random.block(), random.bytes(16 * BLOCKS));
