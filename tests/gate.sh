@@ -1,9 +1,9 @@
 #!/bin/sh
 # The gate: everything is proved from nothing, the must-fail edits are refused and their twins accepted, the programs write what
 # they should, the files are in the layout, the tests beside the proofs and those from C pass, and no public routine lacks its
-# promise in docs/. What each part does, and how long it takes, is in tests/README.md. While a part runs, a line now and then says that
-# it lives; afterwards its last line is written, or, where it failed, its last hundred, and how long it took. The last line is
-# 'N passed, M failed', and the status is 0 only where M is 0.
+# promise in docs/. What each part compares with what is in tests/README.md. While a part runs, a line now and then says that it lives
+# (tools/watch.sh); afterwards a line for each of its steps is written, or, where it failed, its last two hundred lines, and how
+# long it took. The last line is 'N passed, M failed', and the status is 0 only where M is 0.
 set -u
 cd "$(dirname "$0")/.." || exit 2
 passed=0 failed=0
@@ -19,32 +19,28 @@ count() { # STATUS WHAT
     fi
 }
 
-took() { # WHAT: since `began`
-    echo "gate: $1: $(($(date +%s) - began)) s"
+run() { # WHAT COMMAND..: its status is the command's
+    what=$1 began=$(date +%s)
+    shift
+    sh tools/watch.sh "gate: $what" "$log" "$@"
+    status=$?
+    if [ "$status" -eq 0 ]; then
+        grep '^[A-Za-z]*: ' "$log"
+    else
+        tail -n 200 "$log"
+    fi
+    echo "gate: $what: $(($(date +%s) - began)) s"
+    return "$status"
 }
 
 part() { # WHAT COMMAND..: runs it and counts it
-    what=$1 began=$(date +%s)
-    shift
-    if sh tools/watch.sh "gate: $what" "$log" "$@"; then
-        tail -n 1 "$log"
-        count 0 "$what"
-    else
-        tail -n 100 "$log"
-        count 1 "$what"
-    fi
-    took "$what"
+    run "$@"
+    count $? "$1"
 }
 
 # `rt ci` counts by itself: crates, must-fail edits and programs.
-proofs="the proofs, the must-fail edits and the programs (rt ci)" began=$(date +%s)
-sh tools/watch.sh "gate: $proofs" "$log" rt ci
+run "the proofs, the must-fail edits and the programs (rt ci)" rt ci
 status=$?
-if [ "$status" -eq 0 ]; then
-    grep '^rt: ' "$log"
-else
-    tail -n 200 "$log"
-fi
 verdict=$(tail -n 1 "$log")
 case $verdict in
 *[0-9]" passed, "[0-9]*" failed")
@@ -55,7 +51,6 @@ case $verdict in
 *) status=2 ;;
 esac
 [ "$status" -eq 0 ] || [ "$failed" -gt 0 ] || count 1 "rt ci ended with status $status"
-took "$proofs"
 
 part "the layout of the files (rt fmt)" rt fmt --check
 part "the proofs in place, as they are written from the source" python3 tools/in_place.py --check

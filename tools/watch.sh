@@ -1,6 +1,6 @@
 #!/bin/sh
 # watch.sh LABEL LOG COMMAND..: runs a command whose output goes to LOG, and says meanwhile that it lives: how long it has taken, how
-# much it has done, and what last. On a terminal that is one line, written over every second; elsewhere it is a line each half minute.
+# much it has done, and what last. On a terminal that is one line, written over again and again; elsewhere it is a line each half minute.
 # A step is a line of the log that begins with a name and a colon, as `rt` and the tests write one for each thing that is done. The
 # status is the command's.
 set -u
@@ -21,7 +21,7 @@ say() { # how the command stands, with a text before and after it
 
 clear=$(printf '\r\033[K')
 while kill -0 "$command" 2>/dev/null; do
-    sleep 1
+    sleep 0.5
     if [ -t 1 ]; then
         say "$clear" ''
     elif [ $(($(date +%s) - began)) -ge $((said + 30)) ]; then
