@@ -99,7 +99,8 @@ LIBRARY = {
     "basics": ("answers, texts", ""), "modes": ("CBC, CMAC, KDF", "SP 800-38A, B"), "message": ("slots, M1 to M5", "001, 4.9"),
     "device": ("record and rules", ""), "load": ("LOAD_KEY, export", ""), "commands": ("all others", ""),
     "she": ("what C calls", "include/she.h")}
-BESIDE = {"demands": "theorems", "published": "theorems", "vectors": "programs", "cases": "programs", "bench": "programs"}
+BESIDE = {"demands": "theorems", "published": "theorems", "text": "programs", "vectors": "programs", "cases": "programs",
+          "bench": "programs"}
 # The stations of a load, a row a crate: the step of docs/ARCHITECTURE.md that begins there, `functions` of it, other words.
 STATIONS = {
     "C": ["2 the firmware|lends M1 to M3", "1 the sender|writes M1 to M3", "7 the sender|compares both",

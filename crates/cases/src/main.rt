@@ -36,11 +36,9 @@
 // The fields that are written where they changed, with an example of those that hold several things:
 //
 //     key 4                                and so for each slot
-//     slot 4 000000010D00                  a counter of 1, flags 0D, and 00 as it is not empty
+//     slot 4 000000010d00                  a counter of 1, flags 0d, and 00 as it is not empty
 //     UID, seed, state, random key         the last two are those of the random numbers
 //     marks 01000001000000                 initialised, not plain, no debugger, made; the last three have no meaning yet
-ghost use Prim.Native.Nat.{_≤_};
-ghost use lib.ListN.{length};
 use commands::Verdict;
 use device::Device;
 use device::Reply;
@@ -190,43 +188,6 @@ struct Left {
 
 // ---- bytes
 
-// The first n bytes, or all.
-fn front(bytes: &[u8], n: u64) -> &[u8] {
-    let end = n as usize;
-    if end < bytes.len() {
-        &bytes[..end]
-    } else {
-        bytes
-    }
-}
-
-fn front_mut(bytes: &mut [u8], n: u64) -> &mut [u8] {
-    let end = n as usize;
-    if end < bytes.len() {
-        &mut bytes[..end]
-    } else {
-        bytes
-    }
-}
-
-// The bytes from a place on.
-fn rest(bytes: &[u8], from: usize) -> &[u8] {
-    if from < bytes.len() {
-        &bytes[from..]
-    } else {
-        bytes
-    }
-}
-
-// The last 16 bytes, or all.
-fn last_block(bytes: &[u8]) -> &[u8] {
-    if 16 < bytes.len() {
-        rest(bytes, bytes.len() - 16)
-    } else {
-        bytes
-    }
-}
-
 // Changes a bit, where there is one of this number.
 fn flip(text: &mut [u8], bit: u64) {
     let at = (bit / 8) as usize;
@@ -265,21 +226,12 @@ fn is_filler(buffer: &[u8]) -> bool {
 
 // ---- reading
 
-// What stands before the first space.
-fn word(text: &[u8]) -> &[u8] {
-    let mut i: usize = 0;
-    while i < text.len() && text[i] != b' ' {
-        i += 1;
-    }
-    &text[..i]
-}
-
 fn name_of(table: &[u8], number: u8) -> &[u8] {
-    word(rest(table, 20 * (number as usize)))
+    text::before(text::rest(table, 20 * (number as u64)), b' ')
 }
 
 fn command_of(line: &[u8]) -> u8 {
-    let name = word(line);
+    let name = text::before(line, b' ');
     let mut number: u8 = 0;
     while number < NO_COMMAND && !basics::is_same(name, name_of(&COMMANDS, number)) {
         number += 1;
@@ -298,10 +250,11 @@ fn with_digit(value: u64, digit: u8) -> u64 {
 
 fn with_character(before: Numbers, c: u8) -> Numbers {
     let at = before.count % 12;
+    let digit = text::digit(c);
     let mut after = before;
-    after.inside = (b'0' <= c) & (c <= b'9');
+    after.inside = digit < 10;
     if after.inside {
-        after.n[at] = with_digit(before.n[at], c);
+        after.n[at] = with_digit(before.n[at], digit);
     } else if before.inside {
         after.count = at + 1;
     }
@@ -332,23 +285,10 @@ fn given(a: u8, b: u64, c: u64, d: u64) -> [u64; 12] {
     n
 }
 
-// A number for a parameter of 8 bits: too large a one becomes the largest.
-fn byte_of(value: u64) -> u8 {
-    if value < 256 { value as u8 } else { 255 }
-}
-
 // ---- writing
 
 fn write(text: &[u8]) {
     io::write_all(STDOUT_FILENO, text);
-}
-
-fn letter(nibble: u8) -> u8 {
-    b"0123456789ABCDEF"[(nibble % 16) as usize]
-}
-
-fn write_byte(byte: u8) {
-    write(&[letter(byte >> 4), letter(byte)]);
 }
 
 fn write_number(name: &[u8], n: u64) {
@@ -356,13 +296,12 @@ fn write_number(name: &[u8], n: u64) {
     io::print_decimal(STDOUT_FILENO, n);
 }
 
+// Up to as many bytes as M1 to M5 have, which is the most that a line shows.
 fn write_hex(name: &[u8], bytes: &[u8]) {
+    let mut digits = [0u8; 224];
+    let n = text::to_hex(bytes, &mut digits);
     write(name);
-    let mut i: usize = 0;
-    while i < bytes.len() {
-        write_byte(bytes[i]);
-        i += 1;
-    }
+    write(text::front(&digits, n as u64));
 }
 
 fn write_answer(answer: u8) {
@@ -374,18 +313,13 @@ fn write_answer(answer: u8) {
 // ---- the record, in rows of 16 bytes: for each slot its key, and then counter, flags and empty mark; UID, seed, random state,
 // random key, and the marks
 
-fn bytes_of(counter: u32) -> [u8; 4] {
-    [
-        (counter >> 24) as u8,
-        ((counter >> 16) % 256) as u8,
-        ((counter >> 8) % 256) as u8,
-        (counter % 256) as u8,
-    ]
-}
-
 fn slot_row(device: Device, slot: u8) -> [u8; 16] {
     let mut row = [0u8; 16];
-    put(&mut row, 0, &bytes_of(device::counter_at(device, slot)));
+    put(
+        &mut row,
+        0,
+        &text::bytes_of(device::counter_at(device, slot)),
+    );
     row[4] = device::flags_at(device, slot);
     row[5] = basics::byte_at(&device.empty, slot as usize);
     row
@@ -440,18 +374,18 @@ fn write_slot_field(row: u8, bytes: [u8; 16]) {
         write_hex(b" ", &bytes);
     } else {
         write_number(b", slot ", slot);
-        write_hex(b" ", front(&bytes, 6));
+        write_hex(b" ", text::front(&bytes, 6));
     }
 }
 
 // What a row holds: its name, and those of its bytes that mean something.
 fn write_field(row: u8, bytes: [u8; 16]) {
     match row {
-        30 => write_hex(b", UID ", front(&bytes, 15)),
+        30 => write_hex(b", UID ", text::front(&bytes, 15)),
         31 => write_hex(b", seed ", &bytes),
         32 => write_hex(b", state ", &bytes),
         33 => write_hex(b", random key ", &bytes),
-        34 => write_hex(b", marks ", front(&bytes, 7)),
+        34 => write_hex(b", marks ", text::front(&bytes, 7)),
         _ => write_slot_field(row, bytes),
     }
 }
@@ -543,13 +477,14 @@ fn finish_change(bench: Bench, reply: Reply) -> Bench {
 fn extend_seed(bench: Bench, size: u64) -> Bench {
     finish_change(
         bench,
-        commands::extend_seed(bench.device, front(&ENTROPY, size)),
+        commands::extend_seed(bench.device, text::front(&ENTROPY, size)),
     )
 }
 
 fn rnd(bench: Bench, size: u64) -> Bench {
     let mut room = [FILLER; 32];
-    let output = front_mut(&mut room, size);
+    let end = text::front_size(&room, size);
+    let output = &mut room[..end];
     let reply = commands::rnd(bench.device, output);
     finish(
         bench,
@@ -568,8 +503,9 @@ fn get_status(bench: Bench) -> Bench {
 
 fn get_id(bench: Bench, size: u64, room: u64) -> Bench {
     let mut buffer = [FILLER; 48];
-    let output = front_mut(&mut buffer, room);
-    let reply = commands::get_id(bench.device, front(&[TEXT; 32], size), output);
+    let end = text::front_size(&buffer, room);
+    let output = &mut buffer[..end];
+    let reply = commands::get_id(bench.device, text::front(&[TEXT; 32], size), output);
     finish(
         bench,
         reply.answer,
@@ -582,28 +518,29 @@ fn get_id(bench: Bench, size: u64, room: u64) -> Bench {
 
 // ---- ciphers and MACs
 
-fn replied(device: Device, command: u8, n: [u64; 12], text: &[u8], output: &mut [u8]) -> Reply {
-    let slot = byte_of(n[0]);
-    let input = front(text, n[1]);
+fn replied(device: Device, command: u8, n: [u64; 12], given: &[u8], output: &mut [u8]) -> Reply {
+    let slot = text::byte_of(n[0]);
+    let input = text::front(given, n[1]);
     match command {
         ENC_ECB => commands::enc_ecb(device, slot, input, output),
         DEC_ECB => commands::dec_ecb(device, slot, input, output),
-        ENC_CBC => commands::enc_cbc(device, slot, front(text, n[3]), input, output),
-        DEC_CBC => commands::dec_cbc(device, slot, front(text, n[3]), input, output),
+        ENC_CBC => commands::enc_cbc(device, slot, text::front(given, n[3]), input, output),
+        DEC_CBC => commands::dec_cbc(device, slot, text::front(given, n[3]), input, output),
         _ => commands::generate_mac(device, slot, n[3], input, output),
     }
 }
 
 fn tried(device: Device, command: u8, n: [u64; 12]) -> Used {
     let mut room = [FILLER; ROOM];
-    let output = front_mut(&mut room, n[2]);
+    let end = text::front_size(&room, n[2]);
+    let output = &mut room[..end];
     let reply = replied(device, command, n, &[TEXT; ROOM], output);
     let after = reply.device;
     Used {
         answer: reply.answer,
         device: after,
         clean: is_filler(output),
-        block: basics::block_at(last_block(output), 0),
+        block: basics::block_at(text::last(output, 16), 0),
     }
 }
 
@@ -634,11 +571,11 @@ fn verified(device: Device, block: [u8; 16], n: [u64; 12]) -> Verdict {
     let mac = block_with(block, n[5]);
     commands::verify_mac(
         device,
-        byte_of(n[0]),
+        text::byte_of(n[0]),
         n[3],
-        front(&message, n[1]),
-        front(&mac, n[2]),
-        byte_of(n[4]),
+        text::front(&message, n[1]),
+        text::front(&mac, n[2]),
+        text::byte_of(n[4]),
     )
 }
 
@@ -717,7 +654,7 @@ fn uid_of(number: u64) -> [u8; 16] {
 fn first_block(counter: u64, flags: u64, bit: u64) -> [u8; 16] {
     let top = counter % 0x10000000 * 16 + flags % 32 / 2;
     let mut block = [0u8; 16];
-    put(&mut block, 0, &bytes_of(top as u32));
+    put(&mut block, 0, &text::bytes_of(top as u32));
     block[4] = (flags % 2 * 128) as u8;
     flip(&mut block, bit);
     block
@@ -738,7 +675,7 @@ fn enciphered(authkey: [u8; 16], first: [u8; 16], key: [u8; 16]) -> [u8; 32] {
 fn signature(authkey: [u8; 16], messages: [u8; 112]) -> [u8; 16] {
     let k2 = modes::derive(authkey, Constant::KeyUpdateMac);
     let mut m3 = [0u8; 16];
-    modes::cmac(&k2, 384, front(&messages, 48), &mut m3);
+    modes::cmac(&k2, 384, text::front(&messages, 48), &mut m3);
     m3
 }
 
@@ -763,8 +700,8 @@ fn sealed(authkey: [u8; 16], m1: [u8; 16], m2: [u8; 32]) -> [u8; 112] {
 
 // The messages that a line asks for, without a bit of them changed.
 fn written(device: Device, n: [u64; 12]) -> [u8; 112] {
-    let target = byte_of(n[0]) % 16;
-    let authority = byte_of(n[1]) % 16;
+    let target = text::byte_of(n[0]) % 16;
+    let authority = text::byte_of(n[1]) % 16;
     let authkey = sender_key(device, authority);
     let first = first_block(n[2], n[3], n[5]);
     let m2 = enciphered(authkey, first, slot_key(target));
@@ -776,8 +713,8 @@ fn written(device: Device, n: [u64; 12]) -> [u8; 112] {
 // ---- LOAD_KEY
 
 // The first n bytes of a part, or all of it.
-fn part(messages: &[u8], from: usize, size: u64, n: u64) -> &[u8] {
-    front(front(rest(messages, from), size), n)
+fn part(messages: &[u8], from: u64, size: u64, n: u64) -> &[u8] {
+    text::front(text::front(text::rest(messages, from), size), n)
 }
 
 fn load_reply(
@@ -796,13 +733,9 @@ fn load_reply(
 fn loaded(device: Device, messages: [u8; 112], n: [u64; 12]) -> Left {
     let mut m4 = [FILLER; 32];
     let mut m5 = [FILLER; 16];
-    let reply = load_reply(
-        device,
-        &messages,
-        n,
-        front_mut(&mut m4, n[10]),
-        front_mut(&mut m5, n[11]),
-    );
+    let end_4 = text::front_size(&m4, n[10]);
+    let end_5 = text::front_size(&m5, n[11]);
+    let reply = load_reply(device, &messages, n, &mut m4[..end_4], &mut m5[..end_5]);
     let after = reply.device;
     Left {
         answer: reply.answer,
@@ -812,11 +745,11 @@ fn loaded(device: Device, messages: [u8; 112], n: [u64; 12]) -> Left {
 }
 
 // What the command put out begins at a place in M1 to M5.
-fn finish_messages(bench: Bench, left: Left, from: usize, reads: bool) -> Bench {
+fn finish_messages(bench: Bench, left: Left, from: u64, reads: bool) -> Bench {
     let messages = left.messages;
     let mut after = bench;
     after.messages = messages;
-    let shown = rest(&messages, from);
+    let shown = text::rest(&messages, from);
     finish(
         after,
         left.answer,
@@ -845,15 +778,14 @@ fn write_where_taken(device: Device, slots: u8) {
     );
     let left = loaded(device, written(device, n), n);
     if left.answer == 0 {
-        write(b" ");
-        write_byte(slots);
+        write_hex(b" ", &[slots]);
     }
 }
 
 fn pairs(device: Device) {
     let mut slots: u64 = 0;
     while slots < 256 {
-        write_where_taken(device, byte_of(slots));
+        write_where_taken(device, text::byte_of(slots));
         slots += 1;
     }
 }
@@ -871,13 +803,18 @@ fn exported(device: Device, n: [u64; 12]) -> Left {
     let mut m3 = [FILLER; 16];
     let mut m4 = [FILLER; 32];
     let mut m5 = [FILLER; 16];
+    let end_1 = text::front_size(&m1, n[0]);
+    let end_2 = text::front_size(&m2, n[1]);
+    let end_3 = text::front_size(&m3, n[2]);
+    let end_4 = text::front_size(&m4, n[3]);
+    let end_5 = text::front_size(&m5, n[4]);
     let reply = load::export_ram_key(
         device,
-        front_mut(&mut m1, n[0]),
-        front_mut(&mut m2, n[1]),
-        front_mut(&mut m3, n[2]),
-        front_mut(&mut m4, n[3]),
-        front_mut(&mut m5, n[4]),
+        &mut m1[..end_1],
+        &mut m2[..end_2],
+        &mut m3[..end_3],
+        &mut m4[..end_4],
+        &mut m5[..end_5],
     );
     let signed = with_two_blocks(with_block([0; 112], 0, m1), 16, m2);
     let sealed = with_block(signed, 48, m3);
@@ -895,9 +832,9 @@ fn made(n: [u64; 12]) -> Reply {
     let mut secret = SECRET;
     flip(&mut secret, n[4]);
     commands::make(
-        front(&uid_of(n[0]), n[1]),
-        front(&secret, n[2]),
-        front(&SEED, n[3]),
+        text::front(&uid_of(n[0]), n[1]),
+        text::front(&secret, n[2]),
+        text::front(&SEED, n[3]),
     )
 }
 
@@ -937,10 +874,10 @@ fn prepare(bench: Bench, last: u8, flags: u64) -> Bench {
 }
 
 fn load_plain_key(bench: Bench, slot: u64, size: u64) -> Bench {
-    let key = block_with(slot_key(byte_of(slot)), ABSENT);
+    let key = block_with(slot_key(text::byte_of(slot)), ABSENT);
     finish_change(
         bench,
-        commands::load_plain_key(bench.device, front(&key, size)),
+        commands::load_plain_key(bench.device, text::front(&key, size)),
     )
 }
 
@@ -950,9 +887,9 @@ fn with_slot_field(device: Device, field: u64, at: usize, value: u64) -> Device 
     let mut after = device;
     match field {
         1 => after.counters[slot] = (value % 0x100000000) as u32,
-        2 => after.flags[slot] = byte_of(value),
-        3 => after.empty[slot] = byte_of(value),
-        _ => after.uid[slot] = byte_of(value),
+        2 => after.flags[slot] = text::byte_of(value),
+        3 => after.empty[slot] = text::byte_of(value),
+        _ => after.uid[slot] = text::byte_of(value),
     }
     after
 }
@@ -972,7 +909,7 @@ fn with_byte_field(device: Device, field: u64, at: usize, value: u8) -> Device {
 fn with_field(device: Device, field: u64, at: u64, value: u64) -> Device {
     match field {
         1..=4 => with_slot_field(device, field, at as usize, value),
-        _ => with_byte_field(device, field, at as usize, byte_of(value)),
+        _ => with_byte_field(device, field, at as usize, text::byte_of(value)),
     }
 }
 
@@ -981,8 +918,8 @@ fn with_field(device: Device, field: u64, at: u64, value: u64) -> Device {
 // A line that shows something of the device.
 fn show(device: Device, command: u8, n: [u64; 12]) {
     match command {
-        RECORD => write_rows(device, byte_of(n[0]), byte_of(n[1])),
-        ROLES => roles(device, byte_of(n[0])),
+        RECORD => write_rows(device, text::byte_of(n[0]), text::byte_of(n[1])),
+        ROLES => roles(device, text::byte_of(n[0])),
         PAIRS => write_pairs(device),
         _ => write(b"no such command\n"),
     }
@@ -1021,7 +958,7 @@ fn run_command(bench: Bench, command: u8, n: [u64; 12]) -> Bench {
         LOAD_KEY => load_key(bench, n),
         EXPORT_RAM_KEY => finish_messages(bench, exported(bench.device, n), 0, true),
         MAKE => make(bench, n),
-        DEVICE => prepare(bench, byte_of(n[0]), n[1]),
+        DEVICE => prepare(bench, text::byte_of(n[0]), n[1]),
         _ => run_other(bench, command, n),
     }
 }
@@ -1039,29 +976,17 @@ fn run_line(bench: Bench, line: &[u8]) -> Bench {
     }
 }
 
-// Where the line that starts at `from` ends.
-fn line_end(text: &[u8], from: usize) -> usize
-    requires { ⌜ from ≤ length (now text) ⌝ }
-    ensures { λ r. ⌜ (from ≤ r) × (r ≤ length (now (text .entry))) ⌝ }
-{
-    let mut i = from;
-    while i < text.len() && text[i] != b'\n' {
-        i += 1;
-    }
-    i
-}
-
-fn run(text: &[u8]) {
+fn run(lines: &[u8]) {
     let mut bench = Bench {
         device: device::blank(),
         messages: [0; 112],
         block: [0; 16],
     };
-    let mut at: usize = 0;
-    while at < text.len() {
-        let end = line_end(text, at);
-        bench = run_line(bench, &text[at..end]);
-        at = end + 1;
+    let mut left = lines;
+    while left.len() > 0 {
+        bench = run_line(bench, text::before(left, b'\n'));
+        let more = text::after(left, b'\n');
+        left = more;
     }
 }
 

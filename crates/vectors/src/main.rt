@@ -36,77 +36,38 @@
 //     P target / authority             the target's kind, its three roles, the flags that it keeps, 1 as it keeps a counter;
 //                                      whether the pair is allowed
 //     B byte                           target and authority of a slot byte
-ghost use Prim.Native.Nat.{_+_, _≤_, _<_};
-ghost use lib.ListN.{length};
+ghost use mathlib.Core.Path.{_≡_};
+ghost use Prim.Native.Nat.{_≤_};
+ghost use lib.ListN.{length, take};
 use libc::STDIN_FILENO;
 use libc::STDOUT_FILENO;
 
 // How many bytes an operand of a routine on lent buffers can have.
 const ROOM: usize = 8192;
 
-// The value of a hexadecimal digit, and 16 for any other character.
-fn digit(c: u8) -> u8 {
-    match c {
-        b'0'..=b'9' => c - b'0',
-        b'a'..=b'f' => c - b'a' + 10,
-        _ => 16,
-    }
-}
-
-// Another character of an operand with so many digits: a digit goes to its place, if there is room. How many it has then.
-fn with_character(bytes: &mut [u8], digits: usize, c: u8) -> usize
-    requires { ⌜ digits < 0xffffffffffffffff ⌝ }
-    ensures { λ r. ⌜ r ≤ digits + 1 ⌝ }
-{
-    let d = digit(c);
-    if 16 <= d {
-        return digits;
-    }
-    let at = digits / 2;
-    if bytes.len() <= at {
-        return digits + 1;
-    }
-    bytes[at] = bytes[at] << 4 ^ d;
-    digits + 1
-}
-
-// Where the operand after n slashes of a line begins: past them, or at the line's end.
-fn operand_start(line: &[u8], n: usize) -> usize
-    ensures { λ r. ⌜ r ≤ length (now (line .entry)) ⌝ }
-{
+// The operand after n slashes, as it stands in the line.
+fn part(line: &[u8], n: usize) -> &[u8] {
+    let mut left = line;
     let mut slashes = n;
-    let mut i: usize = 0;
-    while i < line.len() && slashes > 0 {
-        if line[i] == b'/' {
-            slashes -= 1;
-        }
-        i += 1;
+    while slashes > 0 {
+        let more = text::after(left, b'/');
+        left = more;
+        slashes -= 1;
     }
-    i
+    text::before(left, b'/')
 }
 
-// The operand after n slashes: its bytes, as far as there is room, and how many digits it has.
-fn operand(line: &[u8], n: usize, bytes: &mut [u8]) -> usize {
-    let mut digits: usize = 0;
-    let mut i = operand_start(line, n);
-    while i < line.len() && line[i] != b'/' {
-        digits = with_character(bytes, digits, line[i]);
-        i += 1;
-    }
-    digits
+// Its bytes, as far as there is room, and how many digits it has.
+fn digits(line: &[u8], n: usize, bytes: &mut [u8]) -> usize {
+    text::from_hex(part(line, n), bytes)
 }
 
-// The first n bytes, or all.
-fn front(bytes: &[u8], n: usize) -> &[u8] {
-    if n < bytes.len() { &bytes[..n] } else { bytes }
-}
-
-fn front_mut(bytes: &mut [u8], n: usize) -> &mut [u8] {
-    if n < bytes.len() {
-        &mut bytes[..n]
-    } else {
-        bytes
-    }
+// The same, and how many bytes it has, of those for which there is room.
+fn operand(line: &[u8], n: usize, bytes: &mut [u8]) -> usize
+    ensures { λ r. ⌜ (r ≤ length (now (bytes .exit))) × (r ≡ length (take r (now (bytes .exit)))) ⌝ }
+{
+    let size = digits(line, n, bytes) / 2;
+    text::front_size(bytes, size as u64)
 }
 
 fn with_byte(value: u64, byte: u8) -> u64 {
@@ -126,43 +87,27 @@ fn value_of(bytes: &[u8]) -> u64 {
 
 fn number(line: &[u8], n: usize) -> u64 {
     let mut bytes = [0u8; 8];
-    let size = operand(line, n, &mut bytes) / 2;
-    value_of(front(&bytes, size))
+    let size = operand(line, n, &mut bytes);
+    value_of(&bytes[..size])
 }
 
-fn letter(nibble: u8) -> u8 {
-    b"0123456789abcdef"[(nibble % 16) as usize]
+fn write(text: &[u8]) {
+    io::write_all(STDOUT_FILENO, text);
 }
 
 // Up to sixteen bytes as a line.
-fn write_row(row: &[u8])
-    requires { ⌜ length (now row) ≤ 16 ⌝ }
-{
+fn write_row(row: &[u8]) {
     let mut line = [b'\n'; 33];
-    let mut i: usize = 0;
-    while i < row.len() {
-        line[2 * i] = letter(row[i] >> 4);
-        line[2 * i + 1] = letter(row[i]);
-        i += 1;
-    }
-    let end = 2 * row.len() + 1;
-    io::write_all(STDOUT_FILENO, &line[..end]);
-}
-
-// Where the row that starts at `at` ends.
-fn row_end(at: usize, size: usize) -> usize
-    requires { ⌜ at < size ⌝ }
-    ensures { λ r. ⌜ (at < r) × (r ≤ size) × (r ≤ at + 16) ⌝ }
-{
-    if size - at < 16 { size } else { at + 16 }
+    let n = text::to_hex(row, &mut line);
+    write(text::front(&line, n as u64 + 1));
 }
 
 fn write_bytes(bytes: &[u8]) {
-    let mut at: usize = 0;
-    while at < bytes.len() {
-        let end = row_end(at, bytes.len());
-        write_row(&bytes[at..end]);
-        at = end;
+    let mut left = bytes;
+    while left.len() > 0 {
+        write_row(text::front(left, 16));
+        let more = text::rest(left, 16);
+        left = more;
     }
 }
 
@@ -173,14 +118,14 @@ fn write_outcome(answer: u8, output: &[u8]) {
 }
 
 fn no_such_vector() {
-    io::write_all(STDOUT_FILENO, b"no such vector\n");
+    write(b"no such vector\n");
 }
 
 // ---- the routines on blocks
 
 fn schedule(line: &[u8]) {
     let mut key = [0u8; 16];
-    if operand(line, 0, &mut key) != 32 {
+    if digits(line, 0, &mut key) != 32 {
         return no_such_vector();
     }
     write_bytes(&aes::expand_key(key));
@@ -188,7 +133,7 @@ fn schedule(line: &[u8]) {
 
 fn subkeys(line: &[u8]) {
     let mut key = [0u8; 16];
-    if operand(line, 0, &mut key) != 32 {
+    if digits(line, 0, &mut key) != 32 {
         return no_such_vector();
     }
     let w = aes::expand_key(key);
@@ -200,10 +145,10 @@ fn subkeys(line: &[u8]) {
 fn of_two_blocks(routine: u8, line: &[u8]) {
     let mut a = [0u8; 16];
     let mut b = [0u8; 16];
-    if operand(line, 0, &mut a) != 32 {
+    if digits(line, 0, &mut a) != 32 {
         return no_such_vector();
     }
-    if operand(line, 1, &mut b) != 32 {
+    if digits(line, 1, &mut b) != 32 {
         return no_such_vector();
     }
     match routine {
@@ -215,7 +160,7 @@ fn of_two_blocks(routine: u8, line: &[u8]) {
 
 fn derived(line: &[u8]) {
     let mut key = [0u8; 16];
-    if operand(line, 0, &mut key) != 32 {
+    if digits(line, 0, &mut key) != 32 {
         return no_such_vector();
     }
     let name = match number(line, 1) {
@@ -235,12 +180,12 @@ fn of_three_buffers(routine: u8, line: &[u8]) {
     let mut first = [0u8; ROOM];
     let mut second = [0u8; ROOM];
     let mut third = [0u8; ROOM];
-    let first_size = operand(line, 0, &mut first) / 2;
-    let second_size = operand(line, 1, &mut second) / 2;
-    let third_size = operand(line, 2, &mut third) / 2;
-    let a = front(&first, first_size);
-    let b = front(&second, second_size);
-    let output = front_mut(&mut third, third_size);
+    let first_size = operand(line, 0, &mut first);
+    let second_size = operand(line, 1, &mut second);
+    let third_size = operand(line, 2, &mut third);
+    let a = &first[..first_size];
+    let b = &second[..second_size];
+    let output = &mut third[..third_size];
     let answer = match routine {
         b'e' => modes::ecb_encrypt(a, b, output),
         b'd' => modes::ecb_decrypt(a, b, output),
@@ -255,14 +200,14 @@ fn cbc(routine: u8, line: &[u8]) {
     let mut iv = [0u8; ROOM];
     let mut text = [0u8; ROOM];
     let mut room = [0u8; ROOM];
-    let key_size = operand(line, 0, &mut key) / 2;
-    let iv_size = operand(line, 1, &mut iv) / 2;
-    let text_size = operand(line, 2, &mut text) / 2;
-    let room_size = operand(line, 3, &mut room) / 2;
-    let k = front(&key, key_size);
-    let v = front(&iv, iv_size);
-    let input = front(&text, text_size);
-    let output = front_mut(&mut room, room_size);
+    let key_size = operand(line, 0, &mut key);
+    let iv_size = operand(line, 1, &mut iv);
+    let text_size = operand(line, 2, &mut text);
+    let room_size = operand(line, 3, &mut room);
+    let k = &key[..key_size];
+    let v = &iv[..iv_size];
+    let input = &text[..text_size];
+    let output = &mut room[..room_size];
     let answer = if routine == b'C' {
         modes::cbc_encrypt(k, v, input, output)
     } else {
@@ -283,70 +228,57 @@ fn repeated(block: [u8; 16]) -> [u8; 65600] {
 }
 
 // How many of its bytes are so many blocks.
-fn size_of(count: u64) -> usize {
-    if count < 4100 {
-        16 * count as usize
-    } else {
-        65600
-    }
-}
-
-// The last 16 bytes, or all.
-fn last_block(bytes: &[u8]) -> &[u8] {
-    if 16 < bytes.len() {
-        let at = bytes.len() - 16;
-        &bytes[at..]
-    } else {
-        bytes
-    }
+fn size_of(count: u64) -> u64 {
+    if count < 4100 { 16 * count } else { 65600 }
 }
 
 fn cbc_repeated(line: &[u8]) {
     let mut block = [0u8; 16];
-    if operand(line, 2, &mut block) != 32 {
+    if digits(line, 2, &mut block) != 32 {
         return no_such_vector();
     }
     let size = size_of(number(line, 3));
     let mut key = [0u8; ROOM];
     let mut iv = [0u8; ROOM];
-    let text = repeated(block);
+    let input = repeated(block);
     let mut room = repeated(block);
-    let key_size = operand(line, 0, &mut key) / 2;
-    let iv_size = operand(line, 1, &mut iv) / 2;
-    let output = front_mut(&mut room, size);
+    let key_size = operand(line, 0, &mut key);
+    let iv_size = operand(line, 1, &mut iv);
+    let room_size = text::front_size(&room, size);
+    let output = &mut room[..room_size];
     let answer = modes::cbc_encrypt(
-        front(&key, key_size),
-        front(&iv, iv_size),
-        front(&text, size),
+        &key[..key_size],
+        &iv[..iv_size],
+        text::front(&input, size),
         output,
     );
-    write_outcome(answer, last_block(output));
+    write_outcome(answer, text::last(output, 16));
 }
 
 // The key and the output are operands 0 and `last`, the message is lent.
 fn mac(line: &[u8], last: usize, message: &[u8]) {
     let mut key = [0u8; ROOM];
     let mut room = [0u8; ROOM];
-    let key_size = operand(line, 0, &mut key) / 2;
-    let room_size = operand(line, last, &mut room) / 2;
-    let output = front_mut(&mut room, room_size);
-    let answer = modes::cmac(front(&key, key_size), number(line, 1), message, output);
+    let key_size = operand(line, 0, &mut key);
+    let room_size = operand(line, last, &mut room);
+    let output = &mut room[..room_size];
+    let answer = modes::cmac(&key[..key_size], number(line, 1), message, output);
     write_outcome(answer, output);
 }
 
 fn cmac(line: &[u8]) {
     let mut message = [0u8; ROOM];
-    let size = operand(line, 2, &mut message) / 2;
-    mac(line, 3, front(&message, size));
+    let size = operand(line, 2, &mut message);
+    mac(line, 3, &message[..size]);
 }
 
 fn cmac_repeated(line: &[u8]) {
     let mut block = [0u8; 16];
-    if operand(line, 2, &mut block) != 32 {
+    if digits(line, 2, &mut block) != 32 {
         return no_such_vector();
     }
     let message = repeated(block);
-    mac(line, 4, front(&message, size_of(number(line, 3))));
+    mac(line, 4, text::front(&message, size_of(number(line, 3))));
 }
 
 // ---- key messages
@@ -354,34 +286,21 @@ fn cmac_repeated(line: &[u8]) {
 // How many bytes an operand of a key message can have.
 const MESSAGE_ROOM: usize = 64;
 
-// A number for a parameter of 8 bits, or of 32: too large a one becomes the largest.
-fn byte_of(value: u64) -> u8 {
-    if value < 256 { value as u8 } else { 255 }
-}
-
-fn word_of(value: u64) -> u32 {
-    if value < 0x100000000 {
-        value as u32
-    } else {
-        0xffffffff
-    }
-}
-
 // The three forms of the writer, with the buffers for the messages lent.
 fn write_form(routine: u8, line: &[u8], m1: &mut [u8], m2: &mut [u8], m3: &mut [u8]) -> u8 {
     let mut uid_room = [0u8; MESSAGE_ROOM];
     let mut authkey_room = [0u8; MESSAGE_ROOM];
     let mut key_room = [0u8; MESSAGE_ROOM];
-    let uid_size = operand(line, 0, &mut uid_room) / 2;
-    let authkey_size = operand(line, 3, &mut authkey_room) / 2;
-    let key_size = operand(line, 6, &mut key_room) / 2;
-    let uid = front(&uid_room, uid_size);
-    let authkey = front(&authkey_room, authkey_size);
-    let key = front(&key_room, key_size);
-    let target = byte_of(number(line, 1));
-    let authority = byte_of(number(line, 2));
-    let counter = word_of(number(line, 4));
-    let flags = byte_of(number(line, 5));
+    let uid_size = operand(line, 0, &mut uid_room);
+    let authkey_size = operand(line, 3, &mut authkey_room);
+    let key_size = operand(line, 6, &mut key_room);
+    let uid = &uid_room[..uid_size];
+    let authkey = &authkey_room[..authkey_size];
+    let key = &key_room[..key_size];
+    let target = text::byte_of(number(line, 1));
+    let authority = text::byte_of(number(line, 2));
+    let counter = text::word_of(number(line, 4));
+    let flags = text::byte_of(number(line, 5));
     match routine {
         b'W' => message::write_key(
             uid,
@@ -404,12 +323,12 @@ fn messages(routine: u8, line: &[u8]) {
     let mut room_1 = [0u8; MESSAGE_ROOM];
     let mut room_2 = [0u8; MESSAGE_ROOM];
     let mut room_3 = [0u8; MESSAGE_ROOM];
-    let size_1 = operand(line, 7, &mut room_1) / 2;
-    let size_2 = operand(line, 8, &mut room_2) / 2;
-    let size_3 = operand(line, 9, &mut room_3) / 2;
-    let m1 = front_mut(&mut room_1, size_1);
-    let m2 = front_mut(&mut room_2, size_2);
-    let m3 = front_mut(&mut room_3, size_3);
+    let size_1 = operand(line, 7, &mut room_1);
+    let size_2 = operand(line, 8, &mut room_2);
+    let size_3 = operand(line, 9, &mut room_3);
+    let m1 = &mut room_1[..size_1];
+    let m2 = &mut room_2[..size_2];
+    let m3 = &mut room_3[..size_3];
     let answer = write_form(routine, line, m1, m2, m3);
     write_outcome(answer, m1);
     write_bytes(m2);
@@ -421,18 +340,18 @@ fn proof(line: &[u8]) {
     let mut key = [0u8; MESSAGE_ROOM];
     let mut room_4 = [0u8; MESSAGE_ROOM];
     let mut room_5 = [0u8; MESSAGE_ROOM];
-    let uid_size = operand(line, 0, &mut uid) / 2;
-    let key_size = operand(line, 4, &mut key) / 2;
-    let size_4 = operand(line, 5, &mut room_4) / 2;
-    let size_5 = operand(line, 6, &mut room_5) / 2;
-    let m4 = front_mut(&mut room_4, size_4);
-    let m5 = front_mut(&mut room_5, size_5);
+    let uid_size = operand(line, 0, &mut uid);
+    let key_size = operand(line, 4, &mut key);
+    let size_4 = operand(line, 5, &mut room_4);
+    let size_5 = operand(line, 6, &mut room_5);
+    let m4 = &mut room_4[..size_4];
+    let m5 = &mut room_5[..size_5];
     let answer = message::write_proof(
-        front(&uid, uid_size),
-        byte_of(number(line, 1)),
-        byte_of(number(line, 2)),
-        word_of(number(line, 3)),
-        front(&key, key_size),
+        &uid[..uid_size],
+        text::byte_of(number(line, 1)),
+        text::byte_of(number(line, 2)),
+        text::word_of(number(line, 3)),
+        &key[..key_size],
         m4,
         m5,
     );
@@ -440,32 +359,23 @@ fn proof(line: &[u8]) {
     write_bytes(m5);
 }
 
-fn bytes_of(word: u32) -> [u8; 4] {
-    [
-        (word >> 24) as u8,
-        ((word >> 16) % 256) as u8,
-        ((word >> 8) % 256) as u8,
-        (word % 256) as u8,
-    ]
-}
-
 fn open(line: &[u8]) {
     let mut authkey = [0u8; MESSAGE_ROOM];
     let mut m1 = [0u8; MESSAGE_ROOM];
     let mut m2 = [0u8; MESSAGE_ROOM];
     let mut m3 = [0u8; MESSAGE_ROOM];
-    let authkey_size = operand(line, 0, &mut authkey) / 2;
-    let size_1 = operand(line, 1, &mut m1) / 2;
-    let size_2 = operand(line, 2, &mut m2) / 2;
-    let size_3 = operand(line, 3, &mut m3) / 2;
+    let authkey_size = operand(line, 0, &mut authkey);
+    let size_1 = operand(line, 1, &mut m1);
+    let size_2 = operand(line, 2, &mut m2);
+    let size_3 = operand(line, 3, &mut m3);
     let opened = message::open(
-        front(&authkey, authkey_size),
-        front(&m1, size_1),
-        front(&m2, size_2),
-        front(&m3, size_3),
+        &authkey[..authkey_size],
+        &m1[..size_1],
+        &m2[..size_2],
+        &m3[..size_3],
     );
     write_bytes(&[opened.genuine as u8]);
-    write_bytes(&bytes_of(opened.counter));
+    write_bytes(&text::bytes_of(opened.counter));
     write_bytes(&[opened.flags, opened.zerofill as u8]);
     write_bytes(&opened.key);
 }
@@ -483,8 +393,8 @@ fn kind_number(slot: u8) -> u8 {
 }
 
 fn slots(line: &[u8]) {
-    let target = byte_of(number(line, 0));
-    let authority = byte_of(number(line, 1));
+    let target = text::byte_of(number(line, 0));
+    let authority = text::byte_of(number(line, 1));
     write_bytes(
         &[
             kind_number(target),
@@ -499,14 +409,14 @@ fn slots(line: &[u8]) {
 }
 
 fn slot_byte(line: &[u8]) {
-    let byte = byte_of(number(line, 0));
+    let byte = text::byte_of(number(line, 0));
     write_bytes(&[message::target_of(byte), message::authority_of(byte)]);
 }
 
 fn run_line(line: &[u8]) {
     if line.len() == 0 || line[0] == b'#' {
-        io::write_all(STDOUT_FILENO, line);
-        io::write_all(STDOUT_FILENO, b"\n");
+        write(line);
+        write(b"\n");
         return;
     }
     let routine = line[0];
@@ -530,24 +440,12 @@ fn run_line(line: &[u8]) {
     }
 }
 
-// Where the line that starts at `from` ends.
-fn line_end(text: &[u8], from: usize) -> usize
-    requires { ⌜ from ≤ length (now text) ⌝ }
-    ensures { λ r. ⌜ (from ≤ r) × (r ≤ length (now (text .entry))) ⌝ }
-{
-    let mut i = from;
-    while i < text.len() && text[i] != b'\n' {
-        i += 1;
-    }
-    i
-}
-
-fn run(text: &[u8]) {
-    let mut at: usize = 0;
-    while at < text.len() {
-        let end = line_end(text, at);
-        run_line(&text[at..end]);
-        at = end + 1;
+fn run(lines: &[u8]) {
+    let mut left = lines;
+    while left.len() > 0 {
+        run_line(text::before(left, b'\n'));
+        let more = text::after(left, b'\n');
+        left = more;
     }
 }
 

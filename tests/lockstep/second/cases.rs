@@ -142,7 +142,7 @@ fn rows(record: &Record, from: u8, to: u8) -> String {
     let row = |row: u8| {
         let mut bytes = fields.get(row as usize).map_or(Vec::new(), |(_, bytes)| bytes.clone());
         bytes.resize(16, 0);
-        format!("\nrow {row}: {}", capital_hex(&bytes))
+        format!("\nrow {row}: {}", hex(&bytes))
     };
     (from..to).map(row).collect()
 }
@@ -150,15 +150,11 @@ fn rows(record: &Record, from: u8, to: u8) -> String {
 /// The fields in which a record differs from the one before.
 fn changes(before: &Record, after: &Record) -> String {
     let both = fields(before).into_iter().zip(fields(after));
-    let new = both.filter(|(old, new)| old != new).map(|(_, (name, bytes))| format!(", {name} {}", capital_hex(&bytes)));
+    let new = both.filter(|(old, new)| old != new).map(|(_, (name, bytes))| format!(", {name} {}", hex(&bytes)));
     match new.collect::<String>() {
         none if none.is_empty() => ", no change".to_string(),
         some => some,
     }
-}
-
-fn capital_hex(bytes: &[u8]) -> String {
-    hex(bytes).to_uppercase()
 }
 
 // ---- what stands after a command
@@ -194,7 +190,7 @@ fn shown(output: &[u8]) -> String {
     if output.is_empty() {
         String::new()
     } else {
-        format!(", {}", capital_hex(output))
+        format!(", {}", hex(output))
     }
 }
 
@@ -270,7 +266,7 @@ fn is_taken(record: &Record, slots: u64) -> bool {
 }
 
 fn pairs(record: &Record) -> String {
-    (0..256).filter(|&slots| is_taken(record, slots)).map(|slots| format!(" {slots:02X}")).collect()
+    (0..256).filter(|&slots| is_taken(record, slots)).map(|slots| format!(" {slots:02x}")).collect()
 }
 
 // ---- making

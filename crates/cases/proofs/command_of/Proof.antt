@@ -11,8 +11,8 @@ Inv-loop line name number₀ t4 number = number ≤ 22
 abbrev μ-loop : tie.MeasureT-loop
 μ-loop line name number₀ t4 number = 22 - number
 
-word-requires : tie.Need-word-requires Inv-loop μ-loop
-word-requires c κs = search needs
+before-requires : tie.Need-before-requires Inv-loop μ-loop
+before-requires c κs = search needs
 
 loop-holds : tie.Need-loop-holds Inv-loop μ-loop
 loop-holds c = search needs
@@ -47,7 +47,7 @@ command-of-spec =
     (tie.spec
     Inv-loop
     μ-loop
-    word-requires
+    before-requires
     loop-holds
     slice-aggregate-name-of
     name-of-requires

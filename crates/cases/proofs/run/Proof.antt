@@ -1,16 +1,16 @@
--- `cases::run` takes each line as a part of the text, and ends.
+-- `cases::run` leaves fewer bytes after each line.
 -- Assumes nothing.
-use Prim.Native.Nat.{_+_, _-_, _≤_}
+use Rattle.text.proofs.Marks.{after-shorter}
 use borrow.Author.Needs.{needs}
 use lib.ListN.{length}
 use Rattle.cases.proofs.run.Statement.{statement}
 use Rattle.cases.proofs.run.Tie as tie
 
 abbrev Inv-loop : tie.InvT-loop
-Inv-loop text bench₀ at₀ bench at = at ≤ length text + 1
+Inv-loop lines bench₀ left₀ bench left = Unit {0}
 
 abbrev μ-loop : tie.MeasureT-loop
-μ-loop text bench₀ at₀ bench at = length text + 1 - at
+μ-loop lines bench₀ left₀ bench left = length left
 
 blank-requires : tie.Need-blank-requires Inv-loop μ-loop
 blank-requires c κs = search needs
@@ -18,26 +18,18 @@ blank-requires c κs = search needs
 loop-holds : tie.Need-loop-holds Inv-loop μ-loop
 loop-holds c = search needs
 
-line-end-requires : tie.Need-line-end-requires Inv-loop μ-loop
-line-end-requires c κs = search needs
-
-sub-run-line : tie.Need-sub-run-line Inv-loop μ-loop
-sub-run-line c = search needs
-
-part-run-line-start : tie.Need-part-run-line-start Inv-loop μ-loop
-part-run-line-start c = search needs
-
-part-run-line-end : tie.Need-part-run-line-end Inv-loop μ-loop
-part-run-line-end c = search needs
+before-requires : tie.Need-before-requires Inv-loop μ-loop
+before-requires c κs = search needs
 
 run-line-requires : tie.Need-run-line-requires Inv-loop μ-loop
 run-line-requires c κs = search needs
 
-add-at : tie.Need-add-at Inv-loop μ-loop
-add-at c = search needs
+after-requires : tie.Need-after-requires Inv-loop μ-loop
+after-requires c κs = search needs
 
 loop-less : tie.Need-loop-less Inv-loop μ-loop
-loop-less c = search needs
+loop-less c = let left = c .before .before .before .before .loop .left .now in
+    after-shorter _ left _ (c .after .ensures) (search needs)
 
 loop-again : tie.Need-loop-again Inv-loop μ-loop
 loop-again c = search needs
@@ -53,12 +45,9 @@ run-spec =
     μ-loop
     blank-requires
     loop-holds
-    line-end-requires
-    sub-run-line
-    part-run-line-start
-    part-run-line-end
+    before-requires
     run-line-requires
-    add-at
+    after-requires
     loop-less
     loop-again
     returns)

@@ -1,40 +1,32 @@
--- `vectors::run` takes each line as a part of the text, and ends.
+-- `vectors::run` leaves fewer bytes after each line.
 -- Assumes nothing.
-use Prim.Native.Nat.{_+_, _-_, _≤_}
-use lib.ListN.{length}
+use Rattle.text.proofs.Marks.{after-shorter}
 use borrow.Author.Needs.{needs}
+use lib.ListN.{length}
 use Rattle.vectors.proofs.run.Statement.{statement}
 use Rattle.vectors.proofs.run.Tie as tie
 
 abbrev Inv-loop : tie.InvT-loop
-Inv-loop text at₀ at = at ≤ length text + 1
+Inv-loop lines left₀ left = Unit {0}
 
 abbrev μ-loop : tie.MeasureT-loop
-μ-loop text at₀ at = length text + 1 - at
+μ-loop lines left₀ left = length left
 
 loop-holds : tie.Need-loop-holds Inv-loop μ-loop
 loop-holds c = search needs
 
-line-end-requires : tie.Need-line-end-requires Inv-loop μ-loop
-line-end-requires c κs = search needs
-
-sub-run-line : tie.Need-sub-run-line Inv-loop μ-loop
-sub-run-line c = search needs
-
-part-run-line-start : tie.Need-part-run-line-start Inv-loop μ-loop
-part-run-line-start c = search needs
-
-part-run-line-end : tie.Need-part-run-line-end Inv-loop μ-loop
-part-run-line-end c = search needs
+before-requires : tie.Need-before-requires Inv-loop μ-loop
+before-requires c κs = search needs
 
 run-line-requires : tie.Need-run-line-requires Inv-loop μ-loop
 run-line-requires c κs = search needs
 
-add-at : tie.Need-add-at Inv-loop μ-loop
-add-at c = search needs
+after-requires : tie.Need-after-requires Inv-loop μ-loop
+after-requires c κs = search needs
 
 loop-less : tie.Need-loop-less Inv-loop μ-loop
-loop-less c = search needs
+loop-less c = let left = c .before .before .before .before .loop .left .now in
+    after-shorter _ left _ (c .after .ensures) (search needs)
 
 loop-again : tie.Need-loop-again Inv-loop μ-loop
 loop-again c = search needs
@@ -49,12 +41,9 @@ run-spec =
     Inv-loop
     μ-loop
     loop-holds
-    line-end-requires
-    sub-run-line
-    part-run-line-start
-    part-run-line-end
+    before-requires
     run-line-requires
-    add-at
+    after-requires
     loop-less
     loop-again
     returns)

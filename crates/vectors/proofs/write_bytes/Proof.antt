@@ -1,37 +1,33 @@
--- `vectors::write_bytes` takes each row as a part of the bytes, and ends.
+-- `vectors::write_bytes` leaves fewer bytes after each row.
 -- Assumes nothing.
-use Prim.Native.Nat.{_-_, _≤_}
-use lib.ListN.{length}
 use borrow.Author.Needs.{needs}
+use lib.ListN.{length, length-drop}
+use mathlib.Core.Path.{ap}
+use native.Mathlib.Omega.{arith}
 use Rattle.vectors.proofs.write_bytes.Statement.{statement}
 use Rattle.vectors.proofs.write_bytes.Tie as tie
 
 abbrev Inv-loop : tie.InvT-loop
-Inv-loop bytes at₀ at = at ≤ length bytes
+Inv-loop bytes left₀ left = Unit {0}
 
 abbrev μ-loop : tie.MeasureT-loop
-μ-loop bytes at₀ at = length bytes - at
+μ-loop bytes left₀ left = length left
 
 loop-holds : tie.Need-loop-holds Inv-loop μ-loop
 loop-holds c = search needs
 
-row-end-requires : tie.Need-row-end-requires Inv-loop μ-loop
-row-end-requires c κs = search needs
-
-sub-write-row : tie.Need-sub-write-row Inv-loop μ-loop
-sub-write-row c = search needs
-
-part-write-row-start : tie.Need-part-write-row-start Inv-loop μ-loop
-part-write-row-start c = search needs
-
-part-write-row-end : tie.Need-part-write-row-end Inv-loop μ-loop
-part-write-row-end c = search needs
+front-requires : tie.Need-front-requires Inv-loop μ-loop
+front-requires c κs = search needs
 
 write-row-requires : tie.Need-write-row-requires Inv-loop μ-loop
 write-row-requires c κs = search needs
 
+rest-requires : tie.Need-rest-requires Inv-loop μ-loop
+rest-requires c κs = search needs
+
 loop-less : tie.Need-loop-less Inv-loop μ-loop
-loop-less c = search needs
+loop-less c = let left = c .before .before .before .before .loop .left .now in
+    omega (arith, ap length (c .rest .ensures), length-drop 16 left)
 
 loop-again : tie.Need-loop-again Inv-loop μ-loop
 loop-again c = search needs
@@ -46,11 +42,9 @@ write-bytes-spec =
     Inv-loop
     μ-loop
     loop-holds
-    row-end-requires
-    sub-write-row
-    part-write-row-start
-    part-write-row-end
+    front-requires
     write-row-requires
+    rest-requires
     loop-less
     loop-again
     returns)

@@ -1,0 +1,5 @@
+pub mod Buffers
+pub mod Digits
+pub mod Hex
+pub mod Marks
+pub mod Parts

@@ -1,0 +1,4 @@
+pub mod Buffers
+pub mod Hex
+pub mod Marks
+pub mod Numbers
