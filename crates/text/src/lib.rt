@@ -6,19 +6,19 @@ ghost use Prim.Native.Nat.{_-_, _*_, _/_, _%_, _≤_, min};
 ghost use lib.Dec.{eqb};
 ghost use lib.ListN.{length, take, drop, getD, set};
 ghost use Rattle.bytes.specs.Bytes.{indexOf};
-ghost use Rattle.text.specs.Buffers.{over};
+ghost use Rattle.text.specs.Buffers.{HasFront, over};
 ghost use Rattle.text.specs.Hex.{letterOf, digitValue, inDigits, digitsIn, pairs};
 ghost use Rattle.text.specs.Marks.{beforeMark, afterMark};
 ghost use Rattle.text.specs.Numbers.{inFour};
 
 // ---- parts
 
-// How many bytes the front of n has: n, or as many as there are. A front that is to be written is taken with it, as
-// `&mut buffer[..size]`. A function that handed it out could not promise what the buffer holds afterwards, and this one's second
-// promise is all that the prover asks there.
+// How many bytes the front of n has: n, or as many as there are. With it a front that is to be written is taken, as
+// `&mut buffer[..size]`, of which the prover asks `HasFront` and no more. A function that handed that front out could not promise
+// what the buffer holds afterwards.
 pub fn front_size(bytes: &[u8], n: u64) -> usize
     ensures { λ r. ⌜ r ≡ min n (length (now (bytes .entry))) ⌝ }
-    ensures { λ r. ⌜ (r ≤ length (now (bytes .entry))) × (r ≡ length (take r (now (bytes .entry)))) ⌝ }
+    ensures { λ r. ⌜ HasFront r (now (bytes .entry)) ⌝ }
 {
     let end = n as usize;
     if end < bytes.len() { end } else { bytes.len() }

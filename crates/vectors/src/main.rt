@@ -36,9 +36,7 @@
 //     P target / authority             the target's kind, its three roles, the flags that it keeps, 1 as it keeps a counter;
 //                                      whether the pair is allowed
 //     B byte                           target and authority of a slot byte
-ghost use mathlib.Core.Path.{_≡_};
-ghost use Prim.Native.Nat.{_≤_};
-ghost use lib.ListN.{length, take};
+ghost use Rattle.text.specs.Buffers.{HasFront};
 use libc::STDIN_FILENO;
 use libc::STDOUT_FILENO;
 
@@ -64,7 +62,7 @@ fn digits(line: &[u8], n: usize, bytes: &mut [u8]) -> usize {
 
 // The same, and how many bytes it has, of those for which there is room.
 fn operand(line: &[u8], n: usize, bytes: &mut [u8]) -> usize
-    ensures { λ r. ⌜ (r ≤ length (now (bytes .exit))) × (r ≡ length (take r (now (bytes .exit)))) ⌝ }
+    ensures { λ r. ⌜ HasFront r (now (bytes .exit)) ⌝ }
 {
     let size = digits(line, n, bytes) / 2;
     text::front_size(bytes, size as u64)
