@@ -6,8 +6,8 @@ definition that its contract equates the outcome with is the one that the row na
 that of the contract's shape, and there are at least two wrong programs. Every theorem that a table names is in its file. Each row of
 the table of accounts in crate `demands` is what the routine of that call promises to perform, by value and in place, word for word
 and with the arguments in their order, so that a theorem about the calls is one about the code, and about all of it.
-include/she.h declares what crate `she` exports, and nothing else. README.md names every crate, and tests/README.md every file that
-tests something.
+include/she.h declares what crate `she` exports, and nothing else. README.md and ARCHITECTURE.md name every crate, and
+tests/README.md every file that tests something.
 
 Made of the files are, in docs/PROMISES.md, the wrong programs of each routine and of the definitions, from what each says of itself
 (tests/wrong/edits.py). With --write the page is written so; without, it must be so already.
@@ -259,11 +259,12 @@ def hold_header(routines):
 
 
 def hold_lists():
-    """README.md names every crate, and tests/README.md every script and folder of the tests, and none that is not there"""
+    """README.md and ARCHITECTURE.md name every crate, and tests/README.md every script of the tests, and none that is not there"""
     crates = set(re.findall(r"^(\w+):", (ROOT / "crates.txt").read_text(), re.M))
-    named = {name for row in rows_under(ROOT / "README.md", "crate") for name in quoted(row[0])}
-    for crate in crates ^ named:
-        check(False, f"{crate} is in one of crates.txt and README.md's table of crates only")
+    for page in ("README.md", "docs/ARCHITECTURE.md"):
+        named = {name for row in rows_under(ROOT / page, "crate") for name in quoted(row[0])}
+        for crate in crates ^ named:
+            check(False, f"{crate} is in one of crates.txt and {page}'s table of crates only")
     tests = ROOT / "tests"
     there = {str(file.relative_to(tests)) for file in tests.rglob("*") if file.suffix in (".sh", ".py", ".txt")}
     told_of = set(re.findall(r"`([\w/-]+\.(?:sh|py|txt))`", (tests / "README.md").read_text()))
