@@ -17,7 +17,7 @@ test:
 
 # Ours beside others', measured on this machine.
 bench:
-	@sh tools/needs.sh gcc:gcc nm:binutils >&2
+	@sh tools/needs.sh gcc:gcc nm:binutils /usr/include/bearssl.h:libbearssl-dev /usr/include/tomcrypt.h:libtomcrypt-dev >&2
 	@sh tests/bench/bench.sh
 
 # The library beside the second program, on random sequences, until it is stopped or they differ. SEED=n for a seed of one's own.

@@ -3,16 +3,6 @@
 # for docs/PERFORMANCE.md as it is. Fails where the program does, and where the library needs more than it may.
 set -eu
 cd "$(dirname "$0")/../.."
-missing=''
-for package in gcc binutils libbearssl-dev libtomcrypt-dev; do
-    dpkg -s "$package" >/dev/null 2>&1 || missing="$missing $package"
-done
-if [ -n "$missing" ]; then
-    echo "installing:$missing" >&2
-    apt-get update -qq >&2
-    # shellcheck disable=SC2086
-    apt-get install -y -qq $missing >/dev/null
-fi
 sh tools/native-archive.sh bench >&2
 sh tools/native-archive.sh she >&2
 library=target/native/libshe.a
