@@ -518,14 +518,14 @@ fn get_id(bench: Bench, size: u64, room: u64) -> Bench {
 
 // ---- ciphers and MACs
 
-fn replied(device: Device, command: u8, n: [u64; 12], given: &[u8], output: &mut [u8]) -> Reply {
+fn replied(device: Device, command: u8, n: [u64; 12], bytes: &[u8], output: &mut [u8]) -> Reply {
     let slot = text::byte_of(n[0]);
-    let input = text::front(given, n[1]);
+    let input = text::front(bytes, n[1]);
     match command {
         ENC_ECB => commands::enc_ecb(device, slot, input, output),
         DEC_ECB => commands::dec_ecb(device, slot, input, output),
-        ENC_CBC => commands::enc_cbc(device, slot, text::front(given, n[3]), input, output),
-        DEC_CBC => commands::dec_cbc(device, slot, text::front(given, n[3]), input, output),
+        ENC_CBC => commands::enc_cbc(device, slot, text::front(bytes, n[3]), input, output),
+        DEC_CBC => commands::dec_cbc(device, slot, text::front(bytes, n[3]), input, output),
         _ => commands::generate_mac(device, slot, n[3], input, output),
     }
 }
