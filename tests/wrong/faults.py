@@ -59,9 +59,7 @@ def seen(fault, seed, sequences):
 
 def main():
     seed, sequences = (sys.argv[1:] + ["1", "3000"][len(sys.argv) - 1:])[:2]
-    built = run("sh", "tools/build-c.sh")
-    if built.returncode:
-        print(built.stdout + built.stderr)
+    if subprocess.run(["sh", "tools/build-c.sh"], cwd=ROOT).returncode:
         return 1
     faults = list(read_faults())
     missed = 0

@@ -123,9 +123,10 @@ def chosen(words):
 
 def main():
     jobs = chosen(sys.argv[1:])
-    proved = run(ROOT, "rt", "check", *jobs)
-    if proved.returncode:
-        sys.exit(proved.stdout)
+    WORK.mkdir(parents=True, exist_ok=True)
+    log = WORK / "check.log"
+    if subprocess.run(["sh", "tools/watch.sh", "shams: the crates as they are", log, "rt", "check", *jobs], cwd=ROOT).returncode:
+        sys.exit(log.read_text())
     longest_first = sorted(jobs, key=lambda crate: -len(jobs[crate]))
     with concurrent.futures.ThreadPoolExecutor(int(os.environ.get("RT_JOBS") or min(os.cpu_count() or 1, 4))) as pool:
         wrong = sum(pool.map(lambda crate: tried_all(crate, jobs[crate]), longest_first))
