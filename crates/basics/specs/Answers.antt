@@ -10,7 +10,7 @@ use lib.Dec.{eqb}
 abbrev pub noError : ℕ
 noError = 0
 
--- a second INIT_RNG since reset
+-- a second INIT_RNG or SECURE_BOOT since reset; a boot check that is finished already
 abbrev pub sequenceError : ℕ
 sequenceError = 1
 
@@ -25,6 +25,10 @@ keyInvalid = 3
 -- slot empty
 abbrev pub keyEmpty : ℕ
 keyEmpty = 4
+
+-- no key to check the bootloader with; no boot check whose end could be told
+abbrev pub noSecureBoot : ℕ
+noSecureBoot = 5
 
 -- target has WRITE set
 abbrev pub keyWriteProtected : ℕ

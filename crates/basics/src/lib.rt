@@ -16,6 +16,8 @@ pub const KEY_INVALID: u8 = 3;
 
 pub const KEY_EMPTY: u8 = 4;
 
+pub const NO_SECURE_BOOT: u8 = 5;
+
 pub const KEY_WRITE_PROTECTED: u8 = 6;
 
 pub const KEY_UPDATE_ERROR: u8 = 7;

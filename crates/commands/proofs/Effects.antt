@@ -1,7 +1,7 @@
 -- What each command does to a made device.
 -- Assumes nothing.
 use mathlib.Core.Path.{_≡_, refl, ap, _∙_}
-use mathlib.Core.Bool.{Bool, true, not, _&&_, _||_, or-true}
+use mathlib.Core.Bool.{Bool, true, not, _&&_, _||_}
 use mathlib.Core.List.{List, [], _∷_}
 use Prim.Native.Nat.{ℕ, _≤_}
 use native.Mathlib.Omega.{arith}
@@ -17,17 +17,17 @@ use Rattle.basics.proofs.Faults.{no-fault}
 use Rattle.modes.specs.Blocks.{zeroBlock}
 use Rattle.message.specs.Slots.{flagsKept, counterKept}
 use Rattle.device.specs.Account.{answerBy}
-use Rattle.device.specs.Made.{slotFine, Sound}
-use Rattle.device.specs.Record.{secretKey, ramKey, off, on, isOn, rngMark, plainMark, debuggerMark, isMarked, isEmpty, slotAt, setRandom, setMark, putSlot, Shaped}
+use Rattle.device.specs.Made.{newMarks, slotFine, Sound}
+use Rattle.device.specs.Record.{secretKey, ramKey, off, on, isOn, rngMark, plainMark, debuggerMark, isMarked, isEmpty, slotAt, setRandom, setMark, setMarks, putSlot, Shaped}
 use Rattle.device.specs.Rules.{kept}
 use Rattle.device.specs.declared.Device.{Device}
 use Rattle.device.specs.declared.Slot.{Slot}
 use Rattle.device.proofs.Account.{made-and-long}
 use Rattle.device.proofs.Effects.{Effective, loads-nothing, sets-mark}
-use Rattle.device.proofs.Made.{PartsFit, AtRest, Made, facts, is-made, plain-still, rests-still, mark-fits, put-sound, empty-there, empty-elsewhere}
-use Rattle.device.proofs.Marks.{that-mark, other-mark, mark-shape}
+use Rattle.device.proofs.Made.{PartsFit, AtRest, Made, facts, is-made, plain-still, rests-still, mark-fits, new-marks-fit, put-sound, empty-there, empty-elsewhere}
+use Rattle.device.proofs.Marks.{that-mark, mark-shape, marks-shape}
 use Rattle.device.proofs.Slots.{put-fits, other-slot}
-use Rattle.commands.specs.Commands.{reset, attachDebugger, loadPlainKey, initRng, extendSeed, rnd}
+use Rattle.commands.specs.Commands.{afterReset, reset, attachDebugger, loadPlainKey, initRng, extendSeed, rnd}
 
 -- ---- marks and random numbers: the slots stay
 pub attach-debugger-effect : Effective attachDebugger
@@ -108,36 +108,22 @@ module _ (e : Device) (key : List ℕ) (empty : ℕ) (shaped : Shaped e) (block 
 
 -- reset: marks and random numbers first
 module _ (d : Device) (sound : Sound d) where
-  abbrev cleared : Device
-  cleared = setMark rngMark off (setRandom (d .seed) zeroBlock zeroBlock d)
-
   abbrev quiet : Device
-  quiet = setMark debuggerMark off (setMark plainMark off cleared)
-
-  cleared-shape : Shaped cleared
-  cleared-shape = mark-shape rngMark off (setRandom (d .seed) zeroBlock zeroBlock d) (sound .0)
+  quiet = setMarks newMarks (setRandom (d .seed) zeroBlock zeroBlock d)
 
   quiet-shape : Shaped quiet
-  quiet-shape = mark-shape debuggerMark off (setMark plainMark off cleared) (mark-shape plainMark off cleared cleared-shape)
+  quiet-shape = marks-shape newMarks (setRandom (d .seed) zeroBlock zeroBlock d) refl (sound .0)
 
   quiet-fits : PartsFit quiet
-  quiet-fits =
-      mark-fits debuggerMark off (setMark plainMark off cleared) (mark-shape plainMark off cleared cleared-shape) (omega arith) refl
-      (mark-fits plainMark off cleared cleared-shape (omega arith) refl
-      (mark-fits rngMark off (setRandom (d .seed) zeroBlock zeroBlock d) (sound .0) (omega arith) refl (facts d (sound .1) .fits) (λ z. omega (arith, z)))
-      (λ z. omega (arith, z)))
-      (λ z. omega (arith, z))
+  quiet-fits = let f = facts d (sound .1) .fits in record { mark = refl; named = f .named; slots = f .slots; all-marks = new-marks-fit }
 
   quiet-rests : AtRest quiet
   unfolding same
-  quiet-rests = or-true (isMarked quiet rngMark)
+  quiet-rests = refl
 
-  reset-sound : Sound (putSlot ramKey (record { key = zeroBlock; counter = 0; flags = 0; empty = on }) quiet)
+  pub reset-sound : Sound (afterReset d)
   unfolding slotFine counterKept kept flagsKept rowOf same
-  reset-sound =
-      let plain = other-mark debuggerMark off (setMark plainMark off cleared) plainMark (λ z. omega (arith, z))
-      ∙ that-mark plainMark off cleared cleared-shape (omega arith) in
-      ram-sound quiet zeroBlock on quiet-shape zero-block quiet-fits (facts d (sound .1) .secret) quiet-rests refl (ap not plain)
+  reset-sound = ram-sound quiet zeroBlock on quiet-shape zero-block quiet-fits (facts d (sound .1) .secret) quiet-rests refl refl
 
 pub reset-effect : Effective reset
 unfolding reset

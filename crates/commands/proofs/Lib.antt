@@ -1,4 +1,5 @@
 pub mod Agreement
+pub mod Booting
 pub mod Effects
 pub mod Making
 pub mod Passed

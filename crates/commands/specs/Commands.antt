@@ -20,10 +20,10 @@ use Rattle.modes.specs.Compression.{compress, kdf}
 use Rattle.modes.specs.Constants.{constantOf}
 use Rattle.modes.specs.declared.Constant.the-variants.{PrngKey, PrngSeedKey, PrngExtension}
 use Rattle.message.specs.declared.Role.the-variants.{Cipher, GenerateMac, VerifyMac}
-use Rattle.device.specs.Made.{zeroUid, blank, fresh}
-use Rattle.device.specs.Account.{Account, command}
+use Rattle.device.specs.Made.{zeroUid, newMarks, blank, fresh}
+use Rattle.device.specs.Account.{Account, unchanged, command}
 use Rattle.device.specs.Outcome.{Outcome, refused, done, byAnswer}
-use Rattle.device.specs.Record.{secretKey, masterEcuKey, ramKey, off, on, rngMark, plainMark, debuggerMark, isMarked, isEmpty, keyAt, setRandom, setMark, putSlot}
+use Rattle.device.specs.Record.{secretKey, masterEcuKey, ramKey, off, on, rngMark, plainMark, debuggerMark, isMarked, isEmpty, keyAt, setRandom, setMark, setMarks, putSlot}
 use Rattle.device.specs.Rules.{locked, status}
 use Rattle.device.specs.declared.Device.{Device}
 use Rattle.commands.specs.Checks.{withKey}
@@ -43,11 +43,12 @@ make uid secret seed =
     byAnswer answer (done (fresh uid secret seed) 0 []) (refused answer blank [])
 
 -- ---- reset: slot 14 becomes zero, empty, not plain; random state and random key become zero, not initialised; the debugger mark
--- goes off. Slots 0 to 13, UID and seed stay
+-- goes off, and all four of the boot check with the mark that it ran. Slots 0 to 13, UID and seed stay. So the marks are those of a
+-- new device
 abbrev pub afterReset : Device → Device
 afterReset d =
     putSlot ramKey (record { key = zeroBlock; counter = 0; flags = 0; empty = on })
-    (setMark debuggerMark off (setMark plainMark off (setMark rngMark off (setRandom (d .seed) zeroBlock zeroBlock d))))
+    (setMarks newMarks (setRandom (d .seed) zeroBlock zeroBlock d))
 
 unfoldable pub reset : Account
 reset = command (record { lent = []; brought = []; lengths = true; checks = λ d. []; does = λ d. (afterReset d, 0, []) })
@@ -186,10 +187,14 @@ unfoldable pub idMac : Device → List ℕ → List ℕ
 idMac d text = cond (isEmpty d masterEcuKey) zeroBlock (cmac (cipher (keyAt d masterEcuKey)) 256 text)
 
 unfoldable pub getId : List ℕ → List ℕ → Account
-getId challenge output = command (record {
+getId challenge output = record {
   lent = output ∷ [];
   brought = challenge ∷ [];
   lengths = rightLengths ((length challenge, 16) ∷ (length output, 32) ∷ []);
+  uses = masterEcuKey ∷ [];
+  loads = [];
+  fills = [];
   checks = λ d. (locked d masterEcuKey, keyNotAvailable) ∷ [];
+  refusal = unchanged;
   does = λ d. (d, 0, (identity d ++ idMac d (challenge ++ identity d)) ∷ []);
-})
+}

@@ -1,2 +1,3 @@
+pub mod Boot
 pub mod Checks
 pub mod Commands

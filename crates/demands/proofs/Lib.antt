@@ -1,3 +1,5 @@
+pub mod BootCheck
+pub mod BootLaws
 pub mod First
 pub mod Laws
 pub mod Lives

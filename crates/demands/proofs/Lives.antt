@@ -1,7 +1,7 @@
 -- What must succeed does: messages that are built under the authority's key load where the rules hold.
 -- Assumes nothing.
 use mathlib.Core.Path.{_≡_, refl, sym, ap, ap₂, _∙_, subst, subst⁻¹}
-use mathlib.Core.Bool.{Bool, true, false, cond, _&&_, and-false, false≢true}
+use mathlib.Core.Bool.{Bool, true, false, cond, _&&_, _||_, and-false, false≢true}
 use mathlib.Core.List.{List, [], _∷_}
 use Prim.Native.Nat.{ℕ, _≤_, _<_}
 use native.Mathlib.Omega.{arith}
@@ -15,7 +15,7 @@ use Rattle.laws.proofs.Same.{same-equal}
 use Rattle.aes.specs.State.{Bytes, Block}
 use Rattle.basics.specs.Answers.{noError}
 use Rattle.message.specs.Building.{uidOf, targetOf, authorityOf, Carried}
-use Rattle.message.specs.Flags.{flagCount, write, debugger}
+use Rattle.message.specs.Flags.{flagCount, write, boot, debugger}
 use Rattle.message.specs.Messages.{m1, m2, m3, m4, m5, Sent, build}
 use Rattle.message.specs.Slots.{counterKept}
 use Rattle.message.specs.Writer.{Messages, fullForm, proofForm}
@@ -26,7 +26,7 @@ use Rattle.device.specs.Made.{made as counts-as-made, Sound}
 use Rattle.device.specs.Outcome.{Outcome, done}
 use Rattle.device.specs.Account.{success}
 use Rattle.device.specs.Record.{secretKey, ramKey, off, plainMark, debuggerMark, markAt, isMarked, keyAt, flagsAt, slotAt}
-use Rattle.device.specs.Rules.{hasFlag, locked, status}
+use Rattle.device.specs.Rules.{hasFlag, bootFailed, locked, status}
 use Rattle.device.proofs.Account.{then-own}
 use Rattle.device.proofs.Made.{Made, facts, secret-present, flagless}
 use Rattle.device.proofs.Record.{key-block}
@@ -111,9 +111,9 @@ module _ (d : Device) (m : Made d) where
   secret-unlocked : locked d secretKey ≡ false
   unfolding locked
   secret-unlocked =
-      ap (λ (flags : ℕ). isMarked d debuggerMark && hasFlag flags debugger)
+      ap (λ (flags : ℕ). isMarked d debuggerMark && hasFlag flags debugger || bootFailed d && hasFlag flags boot)
       (flagless d m secretKey (omega arith) (sym (kept-0 secretKey (omega arith))))
-      ∙ and-false (isMarked d debuggerMark)
+      ∙ ap₂ (λ (x y : Bool). x || y) (and-false (isMarked d debuggerMark)) (and-false (bootFailed d))
 
   ram-writable : hasFlag (flagsAt d ramKey) write ≡ false
   ram-writable = ap (λ (flags : ℕ). hasFlag flags write) (flagless d m ramKey (omega arith) (sym (kept-14 ramKey (omega arith))))

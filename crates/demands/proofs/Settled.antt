@@ -4,8 +4,10 @@ use mathlib.Core.Path.{_≡_, sym, ap, _∙_, fun-ext, subst⁻¹}
 use Prim.Native.Nat.{ℕ, _≤_}
 use native.Mathlib.Decide.{ℕ-discrete}
 use Rattle.device.specs.Outcome.{refused}
-use Rattle.demands.specs.Calls.{account, step}
+use Rattle.demands.specs.Calls.{account, Machine, step}
 use Rattle.demands.specs.Settled.{Settled, ThirdFollows}
+use Rattle.demands.specs.Demand1.{Demand1}
+use Rattle.demands.specs.Demand2.{Demand2}
 use Rattle.demands.specs.Demand3.{Demand3}
 use Rattle.demands.proofs.Runs.{demand-3}
 use Rattle.demands.proofs.Steps.{found, step-refused, step-done}
@@ -21,7 +23,9 @@ demands-settle n machine one two d call = tests (ℕ-discrete (found n d call) 0
         ∙ ap (λ (answer : ℕ). refused answer d (account n call .lent)) (one .by-the-order d call)
         ∙ sym (step-refused n d call fault)
 
+-- so there is only ours
+pub only-ours : (n : ℕ) (machine : Machine) → Demand1 n machine → Demand2 n machine → machine ≡ step n
+only-ours n machine one two = fun-ext (λ d. fun-ext (λ call. demands-settle n machine one two d call))
+
 pub third-follows : (n : ℕ) → n ≤ 100 → ThirdFollows n
-third-follows n few machine one two =
-    let same : machine ≡ step n = fun-ext (λ d. fun-ext (λ call. demands-settle n machine one two d call)) in
-    subst⁻¹ (Demand3 n) same (demand-3 n few)
+third-follows n few machine one two = subst⁻¹ (Demand3 n) (only-ours n machine one two) (demand-3 n few)

@@ -10,8 +10,10 @@ use native.Mathlib.Omega.{arith}
 use lib.ListN.{replicate}
 use Rattle.laws.specs.Lengths.{rightLengths}
 use Rattle.laws.specs.Ranges.{rowOf}
+use Rattle.laws.specs.Same.{same}
 use Rattle.laws.specs.Tabulate.{tabulate}
 use Rattle.laws.specs.Xor.{_xor_}
+use Rattle.laws.proofs.Same.{equal-same}
 use Rattle.field.specs.Field.{reduce, xtime, mulBits, mul, square, power, inverse}
 use Rattle.field.specs.Sbox.{affine, sbox}
 use Rattle.aes.specs.Cipher.{round, rounds, cipherWith, cipher}
@@ -19,30 +21,33 @@ use Rattle.aes.specs.Schedule.{powerOfX, nextWord, moreWords, keyExpansion}
 use Rattle.aes.specs.Steps.{substitute, subBytes, shiftRows, moveRows, matrix, columns, mixColumns, addRoundKey}
 use Rattle.aes.specs.State.{byte, Block}
 use Rattle.aes.proofs.Bytes.{tested-bytes, zero-block}
-use Rattle.basics.specs.Answers.{noError}
+use Rattle.basics.specs.Answers.{noError, keyNotAvailable}
 use Rattle.basics.specs.Bytes.{blockAt}
 use Rattle.modes.specs.Answer.{threeBlocks, cmacLengths}
 use Rattle.modes.specs.Blocks.{zeroBlock}
-use Rattle.message.specs.Slots.{hasRole, counterKept}
+use Rattle.modes.specs.Cmac.{textMac}
+use Rattle.message.specs.Slots.{hasRole, flagsKept, counterKept}
 use Rattle.message.specs.declared.Role.the-variants.{Cipher}
 use Rattle.device.specs.Account.{answerBy}
 use Rattle.device.specs.Made.{blank}
 use Rattle.device.specs.Rules.{kept, locked, usageFits}
 use Rattle.device.specs.Outcome.{Outcome}
-use Rattle.device.specs.Record.{masterEcuKey, ramKey, keyAt, flagsAt, emptyAt, putSlot}
+use Rattle.device.specs.Record.{masterEcuKey, bootMac, ramKey, bootOkMark, isMarked, keyAt, flagsAt, emptyAt, putSlot}
 use Rattle.device.specs.declared.Device.{Device}
+use Rattle.commands.specs.Boot.{measured, measure, checked, secureBoot}
+use Rattle.commands.proofs.Booting.{checked-ok}
 use Rattle.commands.specs.Commands.{encEcb, verifyMac, loadPlainKey}
 use Rattle.load.specs.Rules.{authorityKey, counterRises, loaded}
 use Rattle.message.specs.Flags.{flagCount}
 use Rattle.message.specs.Messages.{m1, m4}
 use Rattle.message.proofs.Building.{parts-unique}
-use Rattle.demands.specs.Calls.{Call, enc-ecb, dec-ecb, verify-mac, load-plain-key, Machine}
+use Rattle.demands.specs.Calls.{Call, enc-ecb, dec-ecb, verify-mac, load-plain-key, secure-boot, Machine}
 use Rattle.demands.specs.Demand1.{Demand1}
 use Rattle.demands.specs.Demand2.{first, output, Demand2}
 use Rattle.demands.specs.Demand3.{Demand3}
-use Rattle.demands.specs.Shams.{RefusesEveryLoad, OneBlockForAll, StoresNothing, ProvesNothing, OnlyTheFirst, MasksSlots, TakesAnyLength, ClearsFirst, Copies, SaysYes, TakesReplays}
-use Rattle.demands.specs.Witness.{master, door, board, keyed, fitted, plain, toKey1, key1, load, text, ciphertext}
-use Rattle.demands.proofs.Witness.{master-loads, key1-loads, plain-is-sound, plain-usable, master-block, door-carried, fitted-sound, board-sound, key1-m2, key1-m3}
+use Rattle.demands.specs.Shams.{RefusesEveryLoad, OneBlockForAll, StoresNothing, ProvesNothing, OnlyTheFirst, MasksSlots, TakesAnyLength, ClearsFirst, Copies, SaysYes, TakesReplays, SaysBootOk, LearnsAnew, ForgetsTheLock}
+use Rattle.demands.specs.Witness.{master, door, board, keyed, fitted, plain, booting, shutOut, toKey1, key1, load, text, ciphertext}
+use Rattle.demands.proofs.Witness.{master-loads, key1-loads, plain-is-sound, plain-usable, master-block, door-block, door-carried, fitted-sound, board-sound, key1-m2, key1-m3, booting-sound, booting-mac, shut-out-sound}
 use Rattle.demands.proofs.First.{making}
 use Rattle.demands.proofs.Settled.{third-follows}
 
@@ -166,3 +171,45 @@ module _ (machine : Machine) (demand : Demand3 flagCount machine) where
 -- and by the first two alone, from which the third follows: M4 and M5 are exactly the paper's
 pub not-proving-nothing-by-two : (machine : Machine) → Demand1 flagCount machine → Demand2 flagCount machine → ProvesNothing machine → ⊥
 not-proving-nothing-by-two machine one two = not-proving-nothing machine (third-follows flagCount (omega arith) machine one two)
+
+-- ---- the boot check. A bootloader has one MAC, so it cannot be the BOOT_MAC of two boards that differ in that alone
+module _ (machine : Machine) (one : Demand1 flagCount machine) (two : Demand2 flagCount machine) where
+  boots : (mac : List ℕ) → Block mac → machine (booting mac) (secure-boot text) .answer ≡ noError
+  unfolding secureBoot answerBy locked loaded putSlot kept flagsKept rowOf
+  boots mac block = one .by-the-order (booting mac) (secure-boot text) ∙ rw (booting-sound mac block .1) refl
+
+  checks : (mac : List ℕ) (block : Block mac)
+      → machine (booting mac) (secure-boot text) .device ≡ checked (same (measure (booting mac) text) (keyAt (booting mac) bootMac)) (booting mac)
+  unfolding secureBoot loaded putSlot
+  checks mac block =
+      ap (λ (o : Outcome). o .device) (two .exact (booting mac) (secure-boot text) (boots mac block))
+
+  measures : (mac : List ℕ) → measure (booting mac) text ≡ textMac (cipher master) (measured text)
+  unfolding measure loaded putSlot blockAt tabulate
+  measures mac = refl
+
+  not-both : ((mac : List ℕ) → Block mac → measure (booting mac) text ≡ mac) → ⊥
+  not-both each =
+      let same = sym (each master master-block) ∙ measures master ∙ sym (measures door) ∙ each door door-block in
+      omega (arith, ap (λ (l : List ℕ). byte l 0) same)
+
+  pub not-saying-boot-ok : SaysBootOk machine → ⊥
+  unfolding loaded putSlot
+  not-saying-boot-ok sham = not-both (λ mac block.
+      let agrees = same (measure (booting mac) text) (keyAt (booting mac) bootMac) in
+      let ok = sym (ap (λ (d : Device). isMarked d bootOkMark) (checks mac block) ∙ checked-ok agrees (booting mac) (booting-sound mac block))
+      ∙ sham (booting mac) text refl (boots mac block) in
+      equal-same (measure (booting mac) text) (keyAt (booting mac) bootMac) ok ∙ booting-mac mac block)
+
+  pub not-learning-anew : LearnsAnew machine → ⊥
+  unfolding checked
+  not-learning-anew sham = not-both (λ mac block.
+      sym (sham (booting mac) text (boots mac block)) ∙ ap (λ (d : Device). keyAt d bootMac) (checks mac block) ∙ booting-mac mac block)
+
+-- a lock is among the checks
+pub not-forgetting-the-lock : (machine : Machine) → Demand1 flagCount machine → ForgetsTheLock machine → ⊥
+unfolding encEcb answerBy threeBlocks rightLengths hasRole rowOf usageFits locked loaded putSlot kept flagsKept
+not-forgetting-the-lock machine demand sham =
+    let found : machine shutOut (enc-ecb key1 text zeroBlock) .answer ≡ keyNotAvailable
+    = demand .by-the-order shutOut (enc-ecb key1 text zeroBlock) ∙ rw (shut-out-sound .1) refl in
+    omega (arith, sym found ∙ sham shutOut key1 text zeroBlock (shut-out-sound .1) refl refl refl refl refl refl)

@@ -1,6 +1,6 @@
 -- The theorems are not vacuous: a made device, loads that succeed, and loads that are refused.
 -- Assumes nothing.
-use mathlib.Core.Path.{_≡_, refl, _∙_}
+use mathlib.Core.Path.{_≡_, refl, ap, _∙_}
 use mathlib.Core.Bool.{true, false, false≢true}
 use mathlib.Core.List.{List, [], _∷_}
 use Prim.Native.Nat.{ℕ}
@@ -19,24 +19,26 @@ use Rattle.modes.specs.Blocks.{Text}
 use Rattle.message.specs.Building.{Carried}
 use Rattle.message.specs.Messages.{m1, m2, m3}
 use Rattle.message.proofs.Building.{m2-text, m3-block, handed-back}
-use Rattle.message.specs.Flags.{flagCount}
+use Rattle.message.specs.Flags.{flagCount, boot}
 use Rattle.message.specs.Slots.{hasRole, flagsKept, counterKept, allowed}
 use Rattle.message.specs.declared.Role.{Role}
 use Rattle.device.specs.Made.{made, slotFine, slotsFine, marksFine, Sound}
 use Rattle.device.specs.Account.{answerBy, perform}
 use Rattle.device.specs.Outcome.{done, refused, byAnswer}
-use Rattle.device.specs.Record.{masterEcuKey, ramKey, putSlot}
+use Rattle.device.specs.Record.{masterEcuKey, bootMacKey, bootMac, ramKey, on, secureBootMark, keyAt, putSlot}
 use Rattle.device.specs.Rules.{kept, locked, usageFits}
+use Rattle.device.specs.declared.Slot.{Slot}
+use Rattle.device.proofs.Effects.{sets-mark}
 use Rattle.device.proofs.Made.{fresh-sound}
 use Rattle.commands.specs.Commands.{makeAnswer, make}
 use Rattle.commands.proofs.Effects.{plain-sound}
 use Rattle.load.specs.Load.{openedBy, loadKey, keyLoaded}
 use Rattle.load.specs.Rules.{authorityKey, isForUs, counterRises, plainAfter, loaded}
-use Rattle.load.proofs.Effects.{loaded-sound}
+use Rattle.load.proofs.Effects.{loaded-sound, loaded-there}
 use Rattle.demands.specs.Calls.{load-key, Machine, step}
 use Rattle.demands.specs.Demand2.{Usable}
 use Rattle.demands.specs.Demand3.{Rules, Demand3}
-use Rattle.demands.specs.Witness.{uid, secret, seed, master, door, key1, board, keyed, fitted, plain, toMaster, toKey1, load}
+use Rattle.demands.specs.Witness.{uid, secret, seed, master, door, key1, board, keyed, fitted, plain, booting, shutOut, toMaster, toKey1, load}
 use Rattle.demands.proofs.Lives.{built-loads}
 use Rattle.demands.proofs.Steps.{answer-found}
 
@@ -47,7 +49,7 @@ master-block = record { long = refl; small = tested-bytes master refl }
 carries : (key : List ℕ) → Block key → Carried flagCount 1 0 key
 carries key block = record { counter-fits = omega arith; flags-fit = omega arith; key-fits = block }
 
-door-block : Block door
+pub door-block : Block door
 door-block = record { long = refl; small = tested-bytes door refl }
 
 pub door-carried : Carried flagCount 1 0 door
@@ -125,3 +127,21 @@ plain-is-sound = plain-sound board board-sound master master-block
 pub plain-usable : (role : Role) → Usable plain ramKey role
 unfolding hasRole usageFits locked rowOf putSlot
 plain-usable role = record { is-sound = plain-is-sound; has-role = refl; holds-key = refl; unlocked = refl; fits = refl }
+
+-- ---- a board that has a BOOT_MAC_KEY and a BOOT_MAC, and one that was shut out
+half-booting : Sound (loaded board bootMacKey 1 0 master)
+half-booting = loaded-sound board board-sound bootMacKey 1 0 master (omega arith) master-block (omega arith) (omega arith)
+
+pub booting-sound : (mac : List ℕ) → Block mac → Sound (booting mac)
+booting-sound mac block =
+    loaded-sound (loaded board bootMacKey 1 0 master) half-booting bootMac 1 0 mac (omega arith) block (omega arith) (omega arith)
+
+pub booting-mac : (mac : List ℕ) → Block mac → keyAt (booting mac) bootMac ≡ mac
+booting-mac mac block =
+    ap (λ (x : Slot). x .key) (loaded-there (loaded board bootMacKey 1 0 master) half-booting bootMac 1 0 mac (omega arith) block)
+
+pub shut-out-sound : Sound shutOut
+shut-out-sound =
+    let one = loaded-sound board board-sound key1 1 boot door (omega arith) door-block (omega arith) (omega arith) in
+    sets-mark secureBootMark on (loaded board key1 1 boot door) one (omega arith) refl (λ z. omega (arith, z)) (λ z. omega (arith, z))
+    (λ z. omega (arith, z)) .sound

@@ -5,6 +5,7 @@ use Prim.Native.Nat.{ℕ}
 use Rattle.device.specs.Account.{Account, perform}
 use Rattle.device.specs.Outcome.{Outcome}
 use Rattle.device.specs.declared.Device.{Device}
+use Rattle.commands.specs.Boot.{secureBoot, bootFailure, bootOk}
 use Rattle.commands.specs.Commands as commands
 use Rattle.load.specs.Export.{exportRamKey}
 use Rattle.load.specs.Load.{loadKey}
@@ -27,6 +28,9 @@ pub data Call : Type 0 where
   rnd : (output : List ℕ) → Call
   get-status : Call
   get-id : (challenge output : List ℕ) → Call
+  secure-boot : (bootloader : List ℕ) → Call
+  boot-failure : Call
+  boot-ok : Call
 
 -- ---- the table of the accounts, over the number n of flags
 abbrev pub account : ℕ → Call → Account
@@ -46,6 +50,9 @@ account n (extend-seed entropy) = commands.extendSeed entropy
 account n (rnd output) = commands.rnd output
 account n get-status = commands.getStatus
 account n (get-id challenge output) = commands.getId challenge output
+account n (secure-boot bootloader) = secureBoot bootloader
+account n boot-failure = bootFailure
+account n boot-ok = bootOk
 
 -- ---- what may stand in the place of a device: for any record and any call the answer, the record after it, the verdict or
 -- status, and the buffers that were lent

@@ -9,15 +9,15 @@ use Prim.Native.Nat.{ℕ, _<_}
 use lib.ListN.{length}
 use Rattle.laws.specs.Among.{Among}
 use Rattle.aes.specs.State.{Bytes}
-use Rattle.basics.specs.Answers.{noError, generalError, keyInvalid, sequenceError, keyNotAvailable, keyEmpty, keyWriteProtected, keyUpdateError, rngSeed}
+use Rattle.basics.specs.Answers.{noError, generalError, keyInvalid, sequenceError, keyNotAvailable, keyEmpty, noSecureBoot, keyWriteProtected, keyUpdateError, rngSeed}
 use Rattle.device.specs.Made.{zeroUid, made, blank, fresh, Sound}
-use Rattle.device.specs.Account.{answerTo}
+use Rattle.device.specs.Account.{names, answerTo}
 use Rattle.device.specs.Outcome.{Outcome, refused, done}
 use Rattle.device.specs.Record.{ramKey}
 use Rattle.device.specs.declared.Device.{Device}
 use Rattle.demands.specs.Calls.{Call, account, Machine}
 
--- the numbers of the paper's table that are given: of its thirteen, four are not yet (5, 9, 10, 11)
+-- the numbers of the paper's table that are given: of its thirteen, three are not yet (9, 10, 11)
 abbrev pub table : List ℕ
 table =
     noError
@@ -25,6 +25,7 @@ table =
     ∷ keyNotAvailable
     ∷ keyInvalid
     ∷ keyEmpty
+    ∷ noSecureBoot
     ∷ keyWriteProtected
     ∷ keyUpdateError
     ∷ rngSeed
@@ -40,7 +41,7 @@ pub record Demand1 (n : ℕ) (machine : Machine) : Type 0 where
   pub not-made : (d : Device) (call : Call) → made d ≡ false → machine d call .answer ≡ generalError
   pub wrong-length : (d : Device) (call : Call) → account n call .lengths ≡ false → machine d call .answer ≡ generalError
   pub no-such-slot : (d : Device) (call : Call) (slot : ℕ) → made d ≡ true → account n call .lengths ≡ true
-      → Among slot (account n call .names) → ramKey < slot → machine d call .answer ≡ keyInvalid
+      → Among slot (names (account n call)) → ramKey < slot → machine d call .answer ≡ keyInvalid
   -- the device and each lent buffer are as they were, and the verdict or status is 0
   pub refusal-changes-nothing : (d : Device) (call : Call) → (machine d call .answer ≡ noError → ⊥)
       → machine d call ≡ refused (machine d call .answer) d (account n call .lent)

@@ -17,14 +17,15 @@ use Rattle.message.specs.Flags.{write}
 use Rattle.message.specs.Messages.{sent, build}
 use Rattle.message.specs.Slots.{allowed}
 use Rattle.device.specs.Made.{made, Sound}
-use Rattle.device.specs.Record.{secretKey, plainMark, markAt, isEmpty, counterAt, flagsAt, slotAt, setMark, besideSlots}
+use Rattle.device.specs.Record.{secretKey, bootMac, off, plainMark, markAt, isEmpty, counterAt, flagsAt, slotAt, setMark, besideSlots}
 use Rattle.device.specs.Rules.{hasFlag, locked}
 use Rattle.device.specs.declared.Device.{Device}
 use Rattle.device.specs.declared.Slot.{Slot}
+use Rattle.commands.specs.Boot.{measure}
 use Rattle.load.specs.Load.{fiveLengths, keyLoaded}
 use Rattle.load.specs.Rules.{authorityKey, isForUs, counterRises, plainAfter, asKept}
-use Rattle.demands.specs.Calls.{Call, Machine, load-key}
-use Rattle.demands.specs.Runs.{run, after, loadsOf, InBytes}
+use Rattle.demands.specs.Calls.{Call, Machine, load-key, secure-boot}
+use Rattle.demands.specs.Runs.{run, after, loadsOf, isFillOf, fillsOf, InBytes}
 
 -- the paper's rules for a message to UID', target and authority, with a counter: the pair; target without WRITE; authority not
 -- empty, or the target itself; authority not locked; identity; counter
@@ -61,6 +62,13 @@ pub record LoadsExactly (n : ℕ) (machine : Machine) (d : Device) (m1 m2 m3 b4 
   pub only-target : (c f : ℕ) (key : List ℕ) → Loads n d m1 m2 m3 c f key
       → OnlyTarget d (targetOf m1) (asKept (targetOf m1) c f key) (machine d (load-key m1 m2 m3 b4 b5) .device)
 
+-- a SECURE_BOOT that found slot 3 empty: that slot holds the MAC of the bootloader, counter 0 and no flags
+pub record Learns (d : Device) (call : Call) (slot : ℕ) (e : Device) : Type 0 where
+  pub bootloader : List ℕ
+  pub by-secure-boot : call ≡ secure-boot bootloader
+  pub slot-is : slot ≡ bootMac
+  pub holds : slotAt e bootMac ≡ record { key = measure d bootloader; counter = 0; flags = 0; empty = off }
+
 -- over any sequence of calls
 pub record Runs (n : ℕ) (machine : Machine) : Type 0 where
   pub stays-made : (d : Device) (calls : List Call) → Sound d → InBytes n calls → Sound (after d (run machine d calls))
@@ -68,9 +76,13 @@ pub record Runs (n : ℕ) (machine : Machine) : Type 0 where
   -- raises it
   pub counters-rise : (d : Device) (calls : List Call) (slot : ℕ) → Sound d → InBytes n calls → slot ≤ 13
       → counterAt d slot + loadsOf n slot (run machine d calls) ≤ counterAt (after d (run machine d calls)) slot
-  -- a non-volatile slot changes only by a load of it that succeeds; SECRET_KEY and UID never change
+  -- a non-volatile slot changes only by a load of it that succeeds, or, slot 3 alone, by a SECURE_BOOT that found it empty and
+  -- succeeded; then it holds exactly that MAC, counter 0 and no flags. SECRET_KEY and UID never change
   pub slots-stay : (d : Device) (calls : List Call) (slot : ℕ) → Sound d → InBytes n calls → slot ≤ 13
-      → loadsOf n slot (run machine d calls) ≡ 0 → slotAt (after d (run machine d calls)) slot ≡ slotAt d slot
+      → loadsOf n slot (run machine d calls) ≡ 0 → fillsOf n slot d (run machine d calls) ≡ 0
+      → slotAt (after d (run machine d calls)) slot ≡ slotAt d slot
+  pub fills-exactly : (d : Device) (call : Call) (slot : ℕ) → Sound d → isFillOf n slot d (call, machine d call) ≡ true
+      → Learns d call slot (machine d call .device)
   pub identity-stays : (d : Device) (calls : List Call) → Sound d → InBytes n calls
       → (slotAt (after d (run machine d calls)) secretKey ≡ slotAt d secretKey) × (after d (run machine d calls) .uid ≡ d .uid)
   -- and a record that is not made never changes

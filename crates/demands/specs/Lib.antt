@@ -1,3 +1,4 @@
+pub mod BootCheck
 pub mod Calls
 pub mod Demand1
 pub mod Demand2

@@ -9,6 +9,7 @@ use Rattle.laws.specs.Among.{isAmong}
 use Rattle.basics.specs.Answers.{noError}
 use Rattle.device.specs.Account.{BringsBytes}
 use Rattle.device.specs.Outcome.{Outcome}
+use Rattle.device.specs.Record.{isEmpty}
 use Rattle.device.specs.declared.Device.{Device}
 use Rattle.demands.specs.Calls.{Call, reset, account, Machine}
 
@@ -30,6 +31,14 @@ module _ (n : ℕ) where
   abbrev pub loadsOf : ℕ → List (Call × Outcome) → ℕ
   loadsOf slot [] = 0
   loadsOf slot (entry ∷ day) = cond (isLoadOf slot entry) 1 0 + loadsOf slot day
+
+  -- how many times a slot was filled: a call that fills it found it empty, and succeeded
+  abbrev pub isFillOf : ℕ → Device → Call × Outcome → Bool
+  isFillOf slot d entry = isAmong slot (account n (entry .0) .fills) && isEmpty d slot && eqb (entry .1 .answer) noError
+
+  abbrev pub fillsOf : ℕ → Device → List (Call × Outcome) → ℕ
+  fillsOf slot d [] = 0
+  fillsOf slot d (entry ∷ day) = cond (isFillOf slot d entry) 1 0 + fillsOf slot (entry .1 .device) day
 
   -- ---- what the types say of calls, for theorems: the buffers that they bring hold bytes
   abbrev pub InBytes : List Call → Type 0

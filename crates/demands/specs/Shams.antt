@@ -8,10 +8,14 @@ use Prim.Native.Nat.{ℕ, _%_}
 use lib.ListN.{length, replicate}
 use Rattle.basics.specs.Answers.{noError}
 use Rattle.message.specs.Building.{targetOf, authorityOf}
+use Rattle.message.specs.Slots.{hasRole}
+use Rattle.message.specs.declared.Role.the-variants.{Cipher}
 use Rattle.device.specs.Made.{made}
-use Rattle.device.specs.Record.{masterEcuKey, isEmpty, flagsAt}
+use Rattle.device.specs.Record.{masterEcuKey, bootMac, debuggerMark, bootOkMark, isMarked, isEmpty, keyAt, flagsAt}
+use Rattle.device.specs.Rules.{usageFits}
 use Rattle.device.specs.declared.Device.{Device}
-use Rattle.demands.specs.Calls.{enc-ecb, verify-mac, load-key, load-plain-key, Machine}
+use Rattle.commands.specs.Boot.{measure}
+use Rattle.demands.specs.Calls.{enc-ecb, verify-mac, load-key, load-plain-key, secure-boot, Machine}
 use Rattle.demands.specs.Demand2.{output, yes-verdict}
 
 -- ---- the four that the paper asks for
@@ -73,3 +77,20 @@ TakesReplays machine = (d : Device) (m1 m2 m3 b4 b5 : List ℕ) → machine d (l
     → (authorityOf m1 ≡ targetOf m1 → ⊥)
     → flagsAt (machine d (load-key m1 m2 m3 b4 b5) .device) (targetOf m1) ≡ flagsAt d (targetOf m1)
     → machine (machine d (load-key m1 m2 m3 b4 b5) .device) (load-key m1 m2 m3 b4 b5) .answer ≡ noError
+
+-- ---- of the boot check
+-- it sets BOOT_OK for every bootloader
+abbrev pub SaysBootOk : Machine → Type 0
+SaysBootOk machine = (d : Device) (bootloader : List ℕ) → isEmpty d bootMac ≡ false
+    → machine d (secure-boot bootloader) .answer ≡ noError → isMarked (machine d (secure-boot bootloader) .device) bootOkMark ≡ true
+
+-- it learns anew on every boot
+abbrev pub LearnsAnew : Machine → Type 0
+LearnsAnew machine = (d : Device) (bootloader : List ℕ) → machine d (secure-boot bootloader) .answer ≡ noError
+    → keyAt (machine d (secure-boot bootloader) .device) bootMac ≡ measure d bootloader
+
+-- it forgets the lock: while no debugger is attached it uses every key that has the role
+abbrev pub ForgetsTheLock : Machine → Type 0
+ForgetsTheLock machine = (d : Device) (slot : ℕ) (text out : List ℕ) → made d ≡ true → length text ≡ 16 → length out ≡ 16
+    → hasRole slot Cipher ≡ true → isEmpty d slot ≡ false → isMarked d debuggerMark ≡ false → usageFits slot (flagsAt d slot) Cipher ≡ true
+    → machine d (enc-ecb slot text out) .answer ≡ noError

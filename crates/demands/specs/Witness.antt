@@ -3,10 +3,10 @@
 use mathlib.Core.List.{List, [], _∷_}
 use Prim.Native.Nat.{ℕ}
 use lib.ListN.{replicate}
-use Rattle.message.specs.Flags.{flagCount}
+use Rattle.message.specs.Flags.{flagCount, boot}
 use Rattle.message.specs.Messages.{Sent, build}
 use Rattle.device.specs.Made.{fresh}
-use Rattle.device.specs.Record.{masterEcuKey, ramKey, off, on, plainMark, setMark, putSlot}
+use Rattle.device.specs.Record.{masterEcuKey, bootMacKey, bootMac, ramKey, off, on, plainMark, secureBootMark, setMark, putSlot}
 use Rattle.device.specs.declared.Device.{Device}
 use Rattle.load.specs.Rules.{loaded}
 use Rattle.demands.specs.Calls.{Call, load-key}
@@ -42,6 +42,13 @@ fitted = loaded keyed key1 1 0 door
 
 abbrev pub plain : Device
 plain = putSlot ramKey (record { key = master; counter = 0; flags = 0; empty = off }) (setMark plainMark on board)
+
+-- with a BOOT_MAC_KEY and a BOOT_MAC; and with KEY_1 kept from a bad boot, after one
+abbrev pub booting : List ℕ → Device
+booting mac = loaded (loaded board bootMacKey 1 0 master) bootMac 1 0 mac
+
+abbrev pub shutOut : Device
+shutOut = setMark secureBootMark on (loaded board key1 1 boot door)
 
 -- ---- the messages: the master key by itself, an empty slot, which counts as 16 bytes of FF; and the door's key by the master key
 abbrev pub toMaster : Sent

@@ -24,8 +24,8 @@ use Rattle.basics.specs.Bytes.{blockAt}
 use Rattle.modes.specs.Blocks.{zeroBlock}
 use Rattle.message.specs.FirstBlock.{maxCounter}
 use Rattle.message.specs.Slots.{flagsKept, counterKept}
-use Rattle.device.specs.Made.{isMark, zeroUid, isZero, slotFine, slotsFine, marksFine, made, unkeyed, fresh, Sound}
-use Rattle.device.specs.Record.{secretKey, ramKey, off, isOn, markCount, rngMark, plainMark, madeMark, markAt, isMarked, counterAt, flagsAt, emptyAt, isEmpty, slotAt, setMark, withSlot, putSlot, Shaped}
+use Rattle.device.specs.Made.{isMark, zeroUid, isZero, slotFine, slotsFine, marksFine, made, newMarks, unkeyed, fresh, Sound}
+use Rattle.device.specs.Record.{secretKey, ramKey, off, isOn, markCount, rngMark, plainMark, madeMark, markAt, isMarked, keyAt, counterAt, flagsAt, emptyAt, isEmpty, slotAt, setMark, withSlot, putSlot, Shaped}
 use Rattle.device.specs.Rules.{kept}
 use Rattle.device.specs.declared.Device.{Device}
 use Rattle.device.specs.declared.Slot.{Slot}
@@ -82,7 +82,7 @@ is-made d m =
     let f = m .fits in
     rw (f .mark, f .named, m .secret, each-all 15 (λ s. slotFine s (slotAt d s)) (f .slots), m .plain-fits, m .at-rest, each-all markCount (λ place. isMark (markAt d place)) (f .all-marks)) refl
 
--- ---- SECRET_KEY is there; a slot that keeps no flags has none
+-- ---- SECRET_KEY is there; a slot that keeps no flags has none, and one that is empty no counter
 module _ (d : Device) (m : Made d) where
   pub secret-present : isEmpty d secretKey ≡ false
   secret-present = not-true (isEmpty d secretKey) (m .secret)
@@ -95,6 +95,16 @@ module _ (d : Device) (m : Made d) where
       let three = both (isMark (emptyAt d s) && counter && flags) (not (isEmpty d s) || isZero (slotAt d s)) (m .fits .slots s fits) .0 in
       let same = eqb-true _ _ (both (isMark (emptyAt d s) && counter) flags three .1) in
       sym same ∙ ap (bitAnd (flagsAt d s)) none ∙ and-zero-r (flagsAt d s)
+
+  pub empty-counter : (s : ℕ) → s < 15 → isEmpty d s ≡ true → counterAt d s ≡ 0
+  unfolding slotFine
+  empty-counter s fits empty =
+      let counter : Bool = leb (counterAt d s) (counterKept s maxCounter) in
+      let flags : Bool = eqb (kept s (flagsAt d s)) (flagsAt d s) in
+      let zero = both (isMark (emptyAt d s) && counter && flags) (not (isEmpty d s) || isZero (slotAt d s)) (m .fits .slots s fits) .1 in
+      let all = sym (ap (λ (b : Bool). not b || isZero (slotAt d s)) empty) ∙ zero in
+      let two = both (same (keyAt d s) zeroBlock && eqb (counterAt d s) 0) (eqb (flagsAt d s) 0) all .0 in
+      eqb-true (counterAt d s) 0 (both (same (keyAt d s) zeroBlock) (eqb (counterAt d s) 0) two .1)
 
 -- ---- a mark set anew leaves what ties another
 module _ (place mark : ℕ) (d : Device) where
@@ -161,7 +171,14 @@ module _ (s : ℕ) (new : Slot) (d : Device) (shaped : Shaped d) (fits : s ≤ 1
       let m : Made (withSlot s new d) = record { fits = slot-fits f fine; secret = secret; plain-fits = plain; at-rest = rest } in
       (subst Shaped (sym put) (shape-kept s new d shaped fits long small), ap made put ∙ is-made (withSlot s new d) m)
 
--- ---- a new device
+-- ---- a new device, and its marks
+tested-marks : all markCount (λ place. isMark (byte newMarks place)) ≡ true
+unfolding all
+tested-marks = refl
+
+pub new-marks-fit : (place : ℕ) → place < markCount → isMark (byte newMarks place) ≡ true
+new-marks-fit = all-each markCount (λ place. isMark (byte newMarks place)) tested-marks
+
 module _ (uid seed : List ℕ) (long : length uid ≡ 15) where
   unkeyed-shape : Shaped (unkeyed uid seed)
   unkeyed-shape = record {
@@ -178,16 +195,12 @@ module _ (uid seed : List ℕ) (long : length uid ≡ 15) where
   unfolding all slotFine counterKept kept flagsKept rowOf blockAt tabulate same
   unkeyed-slots = refl
 
-  unkeyed-marks : all markCount (λ place. isMark (markAt (unkeyed uid seed) place)) ≡ true
-  unfolding all
-  unkeyed-marks = refl
-
   unkeyed-fits : same uid zeroUid ≡ false → PartsFit (unkeyed uid seed)
   unkeyed-fits other = record {
     mark = refl;
     named = ap not other;
     slots = all-each 15 (λ s. slotFine s (slotAt (unkeyed uid seed) s)) unkeyed-slots;
-    all-marks = all-each markCount (λ place. isMark (markAt (unkeyed uid seed) place)) unkeyed-marks;
+    all-marks = new-marks-fit;
   }
 
   unkeyed-rests : AtRest (unkeyed uid seed)

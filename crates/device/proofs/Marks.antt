@@ -1,12 +1,24 @@
--- A mark set anew: that mark is what was set, and every other is as it was.
+-- Marks set anew, all of them or one: that mark is what was set, and every other is as it was.
 -- Assumes nothing.
 use mathlib.Core.Path.{_≡_, ap, _∙_}
+use mathlib.Core.List.{List}
 use Prim.Native.Nat.{ℕ, _<_}
 use native.Mathlib.Omega.{arith}
-use lib.ListN.{length-set}
+use lib.ListN.{length, set, length-set}
 use lib.Seq.{getD-set-same, getD-set-other}
-use Rattle.device.specs.Record.{isOn, markCount, isMarked, setMark, Shaped}
+use Rattle.device.specs.Record.{isOn, markCount, isMarked, setMark, setMarks, Shaped}
 use Rattle.device.specs.declared.Device.{Device}
+
+pub marks-shape : (marks : List ℕ) (d : Device) → length marks ≡ markCount → Shaped d → Shaped (setMarks marks d)
+marks-shape marks d long shaped = record {
+  all-keys = shaped .all-keys;
+  key-bytes = shaped .key-bytes;
+  all-counters = shaped .all-counters;
+  all-flags = shaped .all-flags;
+  all-empty = shaped .all-empty;
+  uid-long = shaped .uid-long;
+  all-marks = long;
+}
 
 module _ (place mark : ℕ) (d : Device) where
   pub that-mark : Shaped d → place < markCount → isMarked (setMark place mark d) place ≡ isOn mark
@@ -16,12 +28,4 @@ module _ (place mark : ℕ) (d : Device) where
   other-mark place′ other = ap isOn (getD-set-other (d .marks) place place′ mark 0 other)
 
   pub mark-shape : Shaped d → Shaped (setMark place mark d)
-  mark-shape shaped = record {
-    all-keys = shaped .all-keys;
-    key-bytes = shaped .key-bytes;
-    all-counters = shaped .all-counters;
-    all-flags = shaped .all-flags;
-    all-empty = shaped .all-empty;
-    uid-long = shaped .uid-long;
-    all-marks = length-set (d .marks) place mark ∙ shaped .all-marks;
-  }
+  mark-shape shaped = marks-shape (set (d .marks) place mark) d (length-set (d .marks) place mark ∙ shaped .all-marks) shaped

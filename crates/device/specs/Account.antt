@@ -2,7 +2,7 @@
 -- any record, is `perform` of its account.
 -- Assumes nothing.
 use mathlib.Core.Bool.{Bool, not}
-use mathlib.Core.List.{List, [], _∷_}
+use mathlib.Core.List.{List, [], _∷_, _++_}
 use Prim.Native.Nat.{ℕ}
 use lib.ListN.{getD}
 use Rattle.aes.specs.State.{Bytes}
@@ -17,15 +17,21 @@ pub record Account : Type 0 where
   pub brought : List (List ℕ)
   -- whether all lengths are right
   pub lengths : Bool
-  -- the slots that it names, to use, as target or as authority; and those that it loads
-  pub names : List ℕ
+  -- the slots whose keys it uses, and must not while they are locked; those that it loads; and those that it fills where they are
+  -- empty
+  pub uses : List ℕ
   pub loads : List ℕ
+  pub fills : List ℕ
   -- its own checks in their order, each with the number that it answers where it finds fault
   pub checks : Device → List (Bool × ℕ)
   -- the device that a refusal with a number leaves
   pub refusal : ℕ → Device → Device
   -- what it does where no check finds fault: the device after it, the verdict or status, and the buffers that were lent
   pub does : Device → Device × ℕ × List (List ℕ)
+
+-- the slots that it names, to use, as target or as authority
+abbrev pub names : Account → List ℕ
+names call = call .uses ++ call .loads
 
 -- ---- a call that names no slot and loads none, and whose refusal leaves the device as it was
 abbrev pub unchanged : ℕ → Device → Device
@@ -44,8 +50,9 @@ command c =
       lent = c .lent;
       brought = c .brought;
       lengths = c .lengths;
-      names = [];
+      uses = [];
       loads = [];
+      fills = [];
       checks = c .checks;
       refusal = unchanged;
       does = c .does;

@@ -5,13 +5,13 @@ use mathlib.Core.Bool.{Bool, true, not, _&&_, _||_}
 use mathlib.Core.List.{List}
 use Prim.Native.Nat.{ℕ}
 use lib.Dec.{eqb, leb}
-use lib.ListN.{replicate}
+use lib.ListN.{replicate, set}
 use Rattle.laws.specs.All.{all}
 use Rattle.laws.specs.Same.{same}
 use Rattle.modes.specs.Blocks.{zeroBlock}
 use Rattle.message.specs.FirstBlock.{maxCounter}
 use Rattle.message.specs.Slots.{counterKept}
-use Rattle.device.specs.Record.{secretKey, ramKey, off, on, isOn, markCount, rngMark, plainMark, madeMark, markAt, isMarked, isEmpty, slotAt, setMark, putSlot, Shaped}
+use Rattle.device.specs.Record.{secretKey, ramKey, off, on, isOn, markCount, rngMark, plainMark, madeMark, markAt, isMarked, isEmpty, slotAt, setMarks, putSlot, Shaped}
 use Rattle.device.specs.Rules.{kept}
 use Rattle.device.specs.declared.Device.{Device}
 use Rattle.device.specs.declared.Slot.{Slot}
@@ -53,6 +53,10 @@ made d =
     && (isMarked d rngMark || (same (d .state) zeroBlock && same (d .rngkey) zeroBlock))
     && marksFine d
 
+-- ---- the marks of a new device, and of one after a reset: it is made, and nothing else
+abbrev pub newMarks : List ℕ
+newMarks = set (replicate markCount off) madeMark on
+
 -- ---- the key store is 240 zero bytes, counters and flags are 0, random state and key are zero, and all marks are off
 abbrev pub unset : List ℕ → List ℕ → ℕ → Device
 unset uid seed empty =
@@ -74,7 +78,7 @@ blank = unset zeroUid zeroBlock off
 
 -- all slots are empty; then SECRET_KEY is put in
 abbrev pub unkeyed : List ℕ → List ℕ → Device
-unkeyed uid seed = setMark madeMark on (unset uid seed on)
+unkeyed uid seed = setMarks newMarks (unset uid seed on)
 
 abbrev pub fresh : List ℕ → List ℕ → List ℕ → Device
 fresh uid secret seed = putSlot secretKey (record { key = secret; counter = 0; flags = 0; empty = off }) (unkeyed uid seed)

@@ -19,11 +19,18 @@ secretKey = 0
 abbrev pub masterEcuKey : ℕ
 masterEcuKey = 1
 
+abbrev pub bootMacKey : ℕ
+bootMacKey = 2
+
+abbrev pub bootMac : ℕ
+bootMac = 3
+
 abbrev pub ramKey : ℕ
 ramKey = 14
 
 -- ---- marks, each a byte that is on or off: how many there are, and the places of those that mean something: random numbers are
--- initialised; slot 14 came in plain; a debugger is attached; the device is made
+-- initialised; slot 14 came in plain; a debugger is attached; the device is made; SECURE_BOOT succeeded since reset; and the four
+-- bits that the status shows of it: SECURE_BOOT, BOOT_INIT, BOOT_FINISHED and BOOT_OK
 abbrev pub off : ℕ
 off = 0
 
@@ -34,7 +41,7 @@ abbrev pub isOn : ℕ → Bool
 isOn mark = eqb mark on
 
 abbrev pub markCount : ℕ
-markCount = 7
+markCount = 11
 
 abbrev pub rngMark : ℕ
 rngMark = 0
@@ -47,6 +54,21 @@ debuggerMark = 2
 
 abbrev pub madeMark : ℕ
 madeMark = 3
+
+abbrev pub bootedMark : ℕ
+bootedMark = 4
+
+abbrev pub secureBootMark : ℕ
+secureBootMark = 5
+
+abbrev pub bootInitMark : ℕ
+bootInitMark = 6
+
+abbrev pub bootFinishedMark : ℕ
+bootFinishedMark = 7
+
+abbrev pub bootOkMark : ℕ
+bootOkMark = 8
 
 abbrev pub markAt : Device → ℕ → ℕ
 markAt d place = byte (d .marks) place
@@ -73,7 +95,7 @@ isEmpty d slot = isOn (emptyAt d slot)
 abbrev pub slotAt : Device → ℕ → Slot
 slotAt d slot = record { key = keyAt d slot; counter = counterAt d slot; flags = flagsAt d slot; empty = emptyAt d slot }
 
--- ---- parts set anew: all that calls can change, with the rest as in d; then the random numbers, a mark, and one slot
+-- ---- parts set anew: all that calls can change, with the rest as in d; then the random numbers, all marks, one of them, and one slot
 abbrev pub rebuilt : (keys counters flags empty seed state rngkey marks : List ℕ) → Device → Device
 rebuilt keys counters flags empty seed state rngkey marks d =
     record {
@@ -92,9 +114,11 @@ rebuilt keys counters flags empty seed state rngkey marks d =
 abbrev pub setRandom : List ℕ → List ℕ → List ℕ → Device → Device
 setRandom seed state key d = rebuilt (d .keys) (d .counters) (d .flags) (d .empty) seed state key (d .marks) d
 
+abbrev pub setMarks : List ℕ → Device → Device
+setMarks marks d = rebuilt (d .keys) (d .counters) (d .flags) (d .empty) (d .seed) (d .state) (d .rngkey) marks d
+
 abbrev pub setMark : ℕ → ℕ → Device → Device
-setMark place mark d =
-    rebuilt (d .keys) (d .counters) (d .flags) (d .empty) (d .seed) (d .state) (d .rngkey) (set (d .marks) place mark) d
+setMark place mark d = setMarks (set (d .marks) place mark) d
 
 abbrev pub withSlots : List ℕ → List ℕ → List ℕ → List ℕ → Device → Device
 withSlots keys counters flags empty d = rebuilt keys counters flags empty (d .seed) (d .state) (d .rngkey) (d .marks) d

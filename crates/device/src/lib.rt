@@ -3,15 +3,20 @@
 // A record is plain data that anyone could have filled, so nothing in it is believed before `is_made`. Slot numbers are bytes
 // from 0 to 255 and stay so: to read what is no slot gives zeros, and to put something there changes nothing.
 ghost use mathlib.Core.Path.{_≡_};
-ghost use Rattle.device.specs.Made.{slotFine, slotsFine, marksFine, made, unset, blank, fresh};
-ghost use Rattle.device.specs.Record.{isMarked, keyAt, counterAt, emptyAt, flagsAt, isEmpty, putSlot, Shaped};
-ghost use Rattle.device.specs.Rules.{hasFlag, kept, locked, isMac, usageFits, bitWhere, status};
+ghost use Prim.Native.Nat.{_≤_};
+ghost use Rattle.device.specs.Made.{slotFine, slotsFine, marksFine, made, newMarks, unset, blank, fresh};
+ghost use Rattle.device.specs.Record.{isMarked, keyAt, counterAt, emptyAt, flagsAt, isEmpty, setMarks, putSlot, Shaped};
+ghost use Rattle.device.specs.Rules.{hasFlag, kept, bootFailed, locked, isMac, usageFits, bitWhere, status};
 use message::Role;
 
 // Slots that a rule names.
 pub const SECRET_KEY: u8 = 0;
 
 pub const MASTER_ECU_KEY: u8 = 1;
+
+pub const BOOT_MAC_KEY: u8 = 2;
+
+pub const BOOT_MAC: u8 = 3;
 
 pub const RAM_KEY: u8 = 14;
 
@@ -20,8 +25,9 @@ pub const OFF: u8 = 0;
 
 pub const ON: u8 = 1;
 
-// The places of the marks: random numbers are initialised, slot 14 came in plain, a debugger is attached, the device is made.
-// The other places are for marks to come: making leaves them off, and every call leaves them as they are.
+// The places of the marks: random numbers are initialised, slot 14 came in plain, a debugger is attached, the device is made,
+// SECURE_BOOT succeeded since reset, and the four bits of the status about it. The other places are for marks to come: making and
+// reset leave them off, and every other call leaves them as they are.
 pub const RNG_MARK: usize = 0;
 
 pub const PLAIN_MARK: usize = 1;
@@ -30,7 +36,17 @@ pub const DEBUGGER_MARK: usize = 2;
 
 pub const MADE_MARK: usize = 3;
 
-const MARKS: usize = 7;
+pub const BOOTED_MARK: usize = 4;
+
+pub const SECURE_BOOT_MARK: usize = 5;
+
+pub const BOOT_INIT_MARK: usize = 6;
+
+pub const BOOT_FINISHED_MARK: usize = 7;
+
+pub const BOOT_OK_MARK: usize = 8;
+
+const MARKS: usize = 11;
 
 // ---- the record
 
@@ -48,7 +64,7 @@ pub struct Device {
     pub state: [u8; 16],
     pub rngkey: [u8; 16],
     // As many as fill the record up to a multiple of four, so that C sees no byte in it that nothing settles.
-    pub marks: [u8; 7],
+    pub marks: [u8; 11],
 }
 
 // What one slot holds.
@@ -146,12 +162,20 @@ pub fn kept(slot: u8, flags: u8) -> u8
     flags & message::flags_kept(slot)
 }
 
-// Whether the debugger keeps a slot from being used.
+// Whether the bootloader was checked and is not the right one, or was found bad later.
+fn boot_failed(device: Device) -> bool
+    ensures { λ r. ⌜ r ≡ bootFailed device ⌝ }
+{
+    is_marked(device, SECURE_BOOT_MARK) & !is_marked(device, BOOT_OK_MARK)
+}
+
+// Whether the debugger or a failed boot check keeps a slot from being used.
 pub fn is_locked(device: Device, slot: u8) -> bool
     ensures { λ r. ⌜ r ≡ locked device slot ⌝ }
 {
     let flags = flags_at(device, slot);
     is_marked(device, DEBUGGER_MARK) & has_flag(flags, message::DEBUGGER)
+        | boot_failed(device) & has_flag(flags, message::BOOT)
 }
 
 fn is_mac(role: Role) -> bool
@@ -176,16 +200,23 @@ pub fn usage_fits(slot: u8, flags: u8, role: Role) -> bool
     }
 }
 
-fn bit_where(on: bool, bit: u8) -> u8
-    ensures { λ r. ⌜ r ≡ bitWhere on bit ⌝ }
+// What a mark adds to the status.
+fn bit_where(device: Device, place: usize, bit: u8) -> u8
+    ensures { λ r. ⌜ r ≡ bitWhere device place bit ⌝ }
+    ensures { λ r. ⌜ r ≤ bit ⌝ }
 {
-    if on { bit } else { 0 }
+    if is_marked(device, place) { bit } else { 0 }
 }
 
 pub fn status_of(device: Device) -> u8
     ensures { λ r. ⌜ r ≡ status device ⌝ }
 {
-    bit_where(is_marked(device, RNG_MARK), 32) + bit_where(is_marked(device, DEBUGGER_MARK), 64)
+    bit_where(device, SECURE_BOOT_MARK, 2)
+        + bit_where(device, BOOT_INIT_MARK, 4)
+        + bit_where(device, BOOT_FINISHED_MARK, 8)
+        + bit_where(device, BOOT_OK_MARK, 16)
+        + bit_where(device, RNG_MARK, 32)
+        + bit_where(device, DEBUGGER_MARK, 64)
 }
 
 // ---- made
@@ -264,8 +295,18 @@ fn unset(uid: [u8; 15], seed: [u8; 16], empty: u8) -> Device
         seed: seed,
         state: [0; 16],
         rngkey: [0; 16],
-        marks: [OFF; 7],
+        marks: [OFF; 11],
     }
+}
+
+// The device with the marks of a new one: it is made, and nothing else.
+pub fn with_new_marks(device: Device) -> Device
+    ensures { λ r. ⌜ r ≡ setMarks newMarks device ⌝ }
+{
+    let mut quiet = device;
+    quiet.marks = [OFF; 11];
+    quiet.marks[MADE_MARK] = ON;
+    quiet
 }
 
 // The blank device: all zero, and not made.
@@ -279,10 +320,8 @@ pub fn blank() -> Device
 pub fn fresh(uid: [u8; 15], secret: [u8; 16], seed: [u8; 16]) -> Device
     ensures { λ r. ⌜ r ≡ fresh uid secret seed ⌝ }
 {
-    let mut new = unset(uid, seed, ON);
-    new.marks[MADE_MARK] = ON;
     put_slot(
-        new,
+        with_new_marks(unset(uid, seed, ON)),
         SECRET_KEY,
         Slot {
             key: secret,

@@ -29,7 +29,7 @@ use Rattle.device.specs.Record.{secretKey, ramKey, off, isOn, plainMark, markAt
 use Rattle.device.specs.Rules.{kept}
 use Rattle.device.specs.declared.Device.{Device}
 use Rattle.device.specs.declared.Slot.{Slot}
-use Rattle.device.proofs.Effects.{Effective}
+use Rattle.device.proofs.Effects.{Effective, same-counter}
 use Rattle.device.proofs.Made.{PlainFits, facts, rests-still, mark-fits, put-sound, empty-elsewhere}
 use Rattle.device.proofs.Marks.{that-mark, mark-shape}
 use Rattle.device.proofs.Record.{key-block}
@@ -182,10 +182,21 @@ module _ (n : ℕ) (few : n ≤ 100) where
       let s = succeeded n few d (sound .0) one two three b4 b5 (bytes 1) zero in
       let slots = pair-slots t (authorityOf one) (s .guard .pair) in
       let block = s .carried .key-fits in
+      let e : Device = loaded d t (new .counter) (new .flags) (new .key) in
+      let elsewhere : (k : ℕ) → (k ≡ t → ⊥) → slotAt e k ≡ slotAt d k
+      = loaded-elsewhere d sound t (new .counter) (new .flags) (new .key) (slots .1) block in
+      let there : (k : ℕ) → k ≤ 13 → t ≡ k → (1 ≤ k) × (counterAt d k < counterAt e k)
+      = λ k low this. raised d e t k (new .counter) this (slots .0) low (s .message .rises)
+      (ap (λ (x : Slot). x .counter) (loaded-there d sound t (new .counter) (new .flags) (new .key) (slots .1) block)) in
       record {
         sound = loaded-sound d sound t (new .counter) (new .flags) (new .key) (slots .1) block (slots .0) (s .carried .counter-fits);
-        uid-stays = ap (λ (e : Device). e .uid) (loaded-beside d sound t (new .counter) (new .flags) (new .key) (slots .1) block);
-        stays = λ k low other. loaded-elsewhere d sound t (new .counter) (new .flags) (new .key) (slots .1) block k (λ e. other (inl e));
-        rises = λ k low this. raised d (loaded d t (new .counter) (new .flags) (new .key)) t k (new .counter) (sym (⊎-elim (λ e. e) (λ none. absurd none) this)) (slots .0) low (s .message .rises)
-            (ap (λ (x : Slot). x .counter) (loaded-there d sound t (new .counter) (new .flags) (new .key) (slots .1) block));
+        uid-stays = ap (λ (x : Device). x .uid) (loaded-beside d sound t (new .counter) (new .flags) (new .key) (slots .1) block);
+        stays = λ k low other full. elsewhere k (λ same. other (inl same));
+        never-falls = λ k low. either d e t k (ℕ-discrete k t) (elsewhere k) (there k low);
+        rises = λ k low this. there k low (sym (⊎-elim (λ same. same) (λ none. absurd none) this));
       }
+    where
+      either : (d e : Device) (t k : ℕ) → Dec (k ≡ t) → ((k ≡ t → ⊥) → slotAt e k ≡ slotAt d k)
+          → (t ≡ k → (1 ≤ k) × (counterAt d k < counterAt e k)) → counterAt d k ≤ counterAt e k
+      either d e t k (yes same) elsewhere there = omega (arith, there (sym same) .1)
+      either d e t k (no other) elsewhere there = same-counter d e k (elsewhere other)

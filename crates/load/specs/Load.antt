@@ -68,8 +68,9 @@ loadKey n m1 m2 m3 before4 before5 = record {
   lent = before4 ∷ before5 ∷ [];
   brought = m1 ∷ m2 ∷ m3 ∷ [];
   lengths = rightLengths (fiveLengths (length m1) (length m2) (length m3) (length before4) (length before5));
-  names = targetOf m1 ∷ authorityOf m1 ∷ [];
+  uses = authorityOf m1 ∷ [];
   loads = targetOf m1 ∷ [];
+  fills = [];
   checks = λ d. loadChecks d m1 (openedBy n d m1 m2 m3);
   refusal = unchanged;
   does = λ d. let new = openedBy n d m1 m2 m3 in

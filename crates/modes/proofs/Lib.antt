@@ -11,4 +11,5 @@ pub mod Padding
 pub mod Runs
 pub mod Settled
 pub mod Subkeys
+pub mod TextMac
 pub mod Texts

@@ -31,17 +31,15 @@ module _ (ciph : List ℕ → List ℕ) where
   last-chained bits m =
       sym (foldl-append (chained ciph) zeroBlock (blocks (take (lastAt bits) m)) (lastBlock ciph (bits - 8 * lastAt bits) (drop (lastAt bits) m) ∷ []))
 
-  pub mac-steps : (bits : ℕ) (m : List ℕ) (at : ℕ) (c x last sum t : List ℕ) → length m ≡ 16 * blockCount bits → at ≡ lastAt bits
-      → c ≡ foldl (chained ciph) zeroBlock (blocks (take at m)) → x ≡ take 16 (drop at m) → last ≡ lastBlock ciph (bits - 8 * at) x
-      → sum ≡ last ⊕ c → t ≡ ciph sum → t ≡ cmac ciph bits m
-  mac-steps bits m at c x last sum t long here ec ex el es et =
+  pub mac-steps : (bits : ℕ) (m : List ℕ) (at : ℕ) (c x t : List ℕ) → length m ≡ 16 * blockCount bits → at ≡ lastAt bits
+      → c ≡ foldl (chained ciph) zeroBlock (blocks (take at m)) → x ≡ take 16 (drop at m)
+      → t ≡ chained ciph c (lastBlock ciph (bits - 8 * at) x) → t ≡ cmac ciph bits m
+  mac-steps bits m at c x t long here ec ex et =
       let rest : x ≡ drop (lastAt bits) m
       = ex ∙ take-all 16 (drop at m) (omega (arith, length-drop at m)) ∙ ap (λ (k : ℕ). drop k m) here in
       et
-      ∙ ap ciph
-      (es
-      ∙ ap₂ _⊕_ (el ∙ ap₂ (λ (k : ℕ) (y : List ℕ). lastBlock ciph (bits - 8 * k) y) here rest)
-      (ec ∙ ap (λ (k : ℕ). foldl (chained ciph) zeroBlock (blocks (take k m))) here))
+      ∙ ap₂ (chained ciph) (ec ∙ ap (λ (k : ℕ). foldl (chained ciph) zeroBlock (blocks (take k m))) here)
+      (ap₂ (λ (k : ℕ) (y : List ℕ). lastBlock ciph (bits - 8 * k) y) here rest)
       ∙ last-chained bits m
 
 -- a MAC is a block, of any message

@@ -5,7 +5,7 @@ use mathlib.Core.Bool.{cond}
 use mathlib.Core.List.{List, [], _∷_, _++_, foldl}
 use Prim.Native.Nat.{ℕ, _+_, _-_, _*_, _/_, _%_, _^_, _<_, max}
 use lib.Dec.{eqb}
-use lib.ListN.{take, drop, replicate}
+use lib.ListN.{length, take, drop, replicate}
 use Rattle.field.specs.Field.{bit}
 use Rattle.aes.specs.State.{byte, state}
 use Rattle.modes.specs.Blocks.{_⊕_, zeroBlock, blocks}
@@ -56,6 +56,13 @@ unfoldable pub cmac : (List ℕ → List ℕ) → ℕ → List ℕ → List ℕ
 cmac ciph bits message =
     foldl (chained ciph) zeroBlock
     (blocks (take (lastAt bits) message) ++ (lastBlock ciph (bits - 8 * lastAt bits) (drop (lastAt bits) message) ∷ []))
+
+-- ---- of a text of whole bytes: zero bytes after its end, which do not count, make its last block whole
+abbrev pub wholeBlocks : List ℕ → List ℕ
+wholeBlocks text = text ++ replicate (16 * blockCount (8 * length text) - length text) 0
+
+unfoldable pub textMac : (List ℕ → List ℕ) → List ℕ → List ℕ
+textMac ciph text = cmac ciph (8 * length text) (wholeBlocks text)
 
 -- ---- bit i of a message, the most significant of a byte first; messages that have their first `bits` bits in common
 abbrev pub messageBit : List ℕ → ℕ → ℕ

@@ -10,11 +10,11 @@ ghost use mathlib.Core.List.{_++_, foldl};
 ghost use Prim.Native.Nat.{_+_, _*_, _%_, _≤_, _<_};
 ghost use lib.ListN.{length, take, drop};
 ghost use lib.Seq.{paste};
-ghost use Rattle.aes.specs.Cipher.{cipherWith, invCipherWith};
+ghost use Rattle.aes.specs.Cipher.{cipher, cipherWith, invCipherWith};
 ghost use Rattle.modes.specs.Answer.{threeBlocks, cbcLengths, cmacLengths, compressLengths};
-ghost use Rattle.modes.specs.Blocks.{_⊕_, zeroBlock, blocks};
+ghost use Rattle.modes.specs.Blocks.{_⊕_, blocks};
 ghost use Rattle.modes.specs.Cbc.{chained, cbcEncrypt, cbcDecrypt};
-ghost use Rattle.modes.specs.Cmac.{shiftLeft, double, k1, k2, cut, padded, blockCount, lastBlock, cmac};
+ghost use Rattle.modes.specs.Cmac.{shiftLeft, double, k1, k2, cut, padded, blockCount, lastBlock, cmac, textMac};
 ghost use Rattle.modes.specs.Compression.{compressed, compressFrom, compress, kdf};
 ghost use Rattle.modes.specs.Constants.{constantOf};
 ghost use Rattle.modes.specs.Routines.{ecbEncryption, ecbDecryption, cbcEncryption, cbcDecryption, authentication, compression, derivation};
@@ -250,11 +250,12 @@ fn last_block(w: &[u8; 176], r: usize, x: [u8; 16]) -> [u8; 16]
     add(subkey_2(w), pad(r, x))
 }
 
-// All blocks of a text chained, under any schedule: the last block of its CBC ciphertext, and nothing else of it is kept.
-fn chain(w: &[u8; 176], text: &[u8]) -> [u8; 16]
-    ensures { λ r. ⌜ r ≡ foldl (chained (cipherWith (now (w .entry)))) zeroBlock (blocks (now (text .entry))) ⌝ }
+// All blocks of a text chained from a start, under any schedule: the last block of its CBC ciphertext, and nothing else of it is
+// kept.
+fn chain(w: &[u8; 176], start: [u8; 16], text: &[u8]) -> [u8; 16]
+    ensures { λ r. ⌜ r ≡ foldl (chained (cipherWith (now (w .entry)))) start (blocks (now (text .entry))) ⌝ }
 {
-    let mut c = [0u8; 16];
+    let mut c = start;
     let mut at: usize = 0;
     while text.len() - at >= 16 {
         let next = aes::encrypt_with(w, add(load(text, at), c));
@@ -287,15 +288,22 @@ pub fn cmac_lengths(key: usize, bits: u64, message: usize, output: usize) -> boo
     output == 16
 }
 
+// The MAC from what the blocks before the last gave, and the last, r bits of which count.
+fn finish(w: &[u8; 176], c: [u8; 16], r: usize, x: [u8; 16]) -> [u8; 16]
+    requires { ⌜ r ≤ 128 ⌝ }
+    ensures { λ t. ⌜ t ≡ chained (cipherWith (now (w .entry))) c (lastBlock (cipherWith (now (w .entry))) r x) ⌝ }
+{
+    aes::encrypt_with(w, add(last_block(w, r, x), c))
+}
+
 // The MAC of a message in whole blocks, of which so many bits count.
 fn mac(w: &[u8; 176], bits: u64, message: &[u8]) -> [u8; 16]
     requires { ⌜ (bits ≤ 524288) × (length (now message) ≡ 16 * blockCount bits) ⌝ }
     ensures { λ r. ⌜ r ≡ cmac (cipherWith (now (w .entry))) bits (now (message .entry)) ⌝ }
 {
     let at = message.len() - 16;
-    let c = chain(w, &message[..at]);
-    let last = last_block(w, bits as usize - 8 * at, load(message, at));
-    aes::encrypt_with(w, add(last, c))
+    let c = chain(w, [0u8; 16], &message[..at]);
+    finish(w, c, bits as usize - 8 * at, load(message, at))
 }
 
 pub fn cmac(key: &[u8], bits: u64, message: &[u8], output: &mut [u8]) -> u8
@@ -309,6 +317,24 @@ pub fn cmac(key: &[u8], bits: u64, message: &[u8], output: &mut [u8]) -> u8
     let result = mac(&w, bits, message);
     store(output, 0, result);
     NO_ERROR
+}
+
+// The MAC of a first block and of a text of whole bytes after it, of any length, which is read where it lies.
+pub fn text_mac(key: [u8; 16], first: [u8; 16], text: &[u8]) -> [u8; 16]
+    ensures { λ r. ⌜ r ≡ textMac (cipher key) (first ++ now (text .entry)) ⌝ }
+{
+    let w = aes::expand_key(key);
+    if text.len() == 0 {
+        return finish(&w, [0u8; 16], 128, first);
+    }
+    let at = (text.len() - 1) / 16 * 16;
+    let c = chain(&w, chain(&w, [0u8; 16], &first), &text[..at]);
+    finish(
+        &w,
+        c,
+        8 * (text.len() - at),
+        basics::block_at(&text[at..], 0),
+    )
 }
 
 // ---- compression and key derivation

@@ -3,7 +3,9 @@
 use Rattle.commands.specs.Commands.{reset}
 use Rattle.device.proofs.Account.{is-refused, is-done}
 use Rattle.device.specs.Outcome.{outcome}
+use Rattle.device.specs.Record.{ramKey, on, putSlot}
 use Rattle.device.specs.declared.Device.{Device}
+use Rattle.modes.specs.Blocks.{zeroBlock}
 use borrow.Author.Needs.{needs}
 use mathlib.Core.List.{[]}
 use mathlib.Core.Path.{ap, _∙_}
@@ -17,22 +19,19 @@ returns : tie.Need-returns
 unfolding reset
 returns c = is-refused _ _ _ (c .before .other-answer .ensures) (c .if1 .taken)
 
-element-write-quiet : tie.Need-element-write-quiet
-element-write-quiet c = search needs
-
-element-write-quiet-2 : tie.Need-element-write-quiet-2
-element-write-quiet-2 c = search needs
-
-element-write-quiet-3 : tie.Need-element-write-quiet-3
-element-write-quiet-3 c = search needs
+with-new-marks-requires : tie.Need-with-new-marks-requires
+with-new-marks-requires c κs = search needs
 
 put-slot-requires : tie.Need-put-slot-requires
 put-slot-requires c κs = search needs
 
 returns-2 : tie.Need-returns-2
 unfolding reset
-returns-2 c = let o = c .before .before .before in
-    ap (λ (d : Device). outcome 0 d 0 []) (c .put-slot .ensures) ∙ is-done _ _ _ (o .before .other-answer .ensures) (o .if1 .left)
+returns-2 c = let m = c .before in
+    let o = m .before .before .before in
+    let put : Device → Device = putSlot ramKey (record { key = zeroBlock; counter = 0; flags = 0; empty = on }) in
+    ap (λ (d : Device). outcome 0 d 0 []) (c .put-slot .ensures ∙ ap put (m .with-new-marks .ensures))
+    ∙ is-done _ _ _ (o .before .other-answer .ensures) (o .if1 .left)
 
 pub reset-spec : {M : Type 1} → statement M
-reset-spec = tie.close (tie.spec other-answer-requires returns element-write-quiet element-write-quiet-2 element-write-quiet-3 put-slot-requires returns-2)
+reset-spec = tie.close (tie.spec other-answer-requires returns with-new-marks-requires put-slot-requires returns-2)

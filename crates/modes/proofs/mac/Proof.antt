@@ -17,30 +17,24 @@ slice-aggregate-chain c = sym (length-take-le _ (c .before .before .args .messag
 chain-requires : tie.Need-chain-requires
 chain-requires c κs = search needs
 
-mul-last-block : tie.Need-mul-last-block
-mul-last-block c = search needs
+mul-finish : tie.Need-mul-finish
+mul-finish c = search needs
 
-sub-last-block : tie.Need-sub-last-block
-sub-last-block c = search needs
+sub-finish : tie.Need-sub-finish
+sub-finish c = search needs
 
 load-requires : tie.Need-load-requires
 load-requires c κs = search needs
 
-last-block-requires : tie.Need-last-block-requires
-last-block-requires c κs = search needs
-
-add-requires : tie.Need-add-requires
-add-requires c κs = search needs
-
-encrypt-with-requires : tie.Need-encrypt-with-requires
-encrypt-with-requires c κs = search needs
+finish-requires : tie.Need-finish-requires
+finish-requires c κs = search needs
 
 returns : tie.Need-returns
-returns c = let l = c .before .before in
-    let h = l .before .before in
+returns c = let l = c .before in
+    let h = l .before in
     let a = h .before .before .before .args in
-    mac-steps (cipherWith (a .w .now)) (a .bits) (a .message .now) _ (h .chain .result) (l .before .load .result) (l .last-block .result) (c .before .add .result) _
-    (search needs) (search needs) (h .chain .ensures) (l .before .load .ensures) (l .last-block .ensures) (c .before .add .ensures) (c .encrypt-with .ensures)
+    mac-steps (cipherWith (a .w .now)) (a .bits) (a .message .now) _ (h .chain .result) (l .load .result) _
+    (search needs) (search needs) (h .chain .ensures) (l .load .ensures) (c .finish .ensures)
 
 pub mac-spec : {M : Type 1} → statement M
 mac-spec =
@@ -49,10 +43,8 @@ mac-spec =
     sub-at
     slice-aggregate-chain
     chain-requires
-    mul-last-block
-    sub-last-block
+    mul-finish
+    sub-finish
     load-requires
-    last-block-requires
-    add-requires
-    encrypt-with-requires
+    finish-requires
     returns)
