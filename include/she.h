@@ -28,11 +28,11 @@ typedef uint64_t she_length;
 
 enum she_answer {
     SHE_NO_ERROR = 0,
-    SHE_SEQUENCE_ERROR = 1,      /* a second INIT_RNG since reset */
-    SHE_KEY_NOT_AVAILABLE = 2,   /* the slot is locked: DEBUGGER is set and a debugger attached */
+    SHE_SEQUENCE_ERROR = 1,      /* a second INIT_RNG or SECURE_BOOT since reset, or booting is finished */
+    SHE_KEY_NOT_AVAILABLE = 2,   /* the slot is locked: by DEBUGGER while a debugger is attached, or by BOOT after a bad boot */
     SHE_KEY_INVALID = 3,         /* no such slot, not its role, not an allowed pair */
     SHE_KEY_EMPTY = 4,           /* the slot is empty */
-    SHE_NO_SECURE_BOOT = 5,      /* not given yet */
+    SHE_NO_SECURE_BOOT = 5,      /* there is no BOOT_MAC_KEY, or no bootloader was checked */
     SHE_KEY_WRITE_PROTECTED = 6, /* the target has WRITE set */
     SHE_KEY_UPDATE_ERROR = 7,    /* the key message is refused: she_load_key has the reasons */
     SHE_RNG_SEED = 8,            /* RND or EXTEND_SEED before INIT_RNG */
@@ -57,18 +57,30 @@ enum she_slot {
 /* Flags of a slot, added up. */
 enum she_flag { SHE_WILDCARD = 1, SHE_KEY_USAGE = 2, SHE_DEBUGGER = 4, SHE_BOOT = 8, SHE_WRITE = 16, SHE_ALL_FLAGS = 31 };
 
-/* Marks of a device, each a byte: 1 for on, 0 for off. The places 4 to 6 mean nothing yet: she_make leaves them 0, and every other
- * call leaves them as they are. */
+/* Marks of a device, each a byte: 1 for on, 0 for off. The places 9 and 10 mean nothing yet: she_make and she_reset leave them 0,
+ * and every other call leaves them as they are. */
 enum she_mark {
-    SHE_MARK_RANDOM = 0,   /* she_init_rng was called since reset */
-    SHE_MARK_PLAIN = 1,    /* RAM_KEY came in plain */
-    SHE_MARK_DEBUGGER = 2, /* a debugger is attached */
-    SHE_MARK_MADE = 3,     /* the device is made */
-    SHE_MARKS = 7
+    SHE_MARK_RANDOM = 0,        /* she_init_rng was called since reset */
+    SHE_MARK_PLAIN = 1,         /* RAM_KEY came in plain */
+    SHE_MARK_DEBUGGER = 2,      /* a debugger is attached */
+    SHE_MARK_MADE = 3,          /* the device is made */
+    SHE_MARK_BOOTED = 4,        /* she_secure_boot succeeded since reset */
+    SHE_MARK_SECURE_BOOT = 5,   /* it checked the bootloader against BOOT_MAC */
+    SHE_MARK_BOOT_INIT = 6,     /* it learnt the bootloader: there was no BOOT_MAC */
+    SHE_MARK_BOOT_FINISHED = 7, /* the check failed, or she_boot_failure or she_boot_ok was called */
+    SHE_MARK_BOOT_OK = 8,       /* the check succeeded, and she_boot_failure wasn't called */
+    SHE_MARKS = 11
 };
 
-/* Bits of the status. */
-enum she_status_bit { SHE_STATUS_RANDOM = 32, SHE_STATUS_DEBUGGER = 64 };
+/* Bits of the status, one for each mark that it shows. */
+enum she_status_bit {
+    SHE_STATUS_SECURE_BOOT = 2,
+    SHE_STATUS_BOOT_INIT = 4,
+    SHE_STATUS_BOOT_FINISHED = 8,
+    SHE_STATUS_BOOT_OK = 16,
+    SHE_STATUS_RANDOM = 32,
+    SHE_STATUS_DEBUGGER = 64
+};
 
 enum {
     SHE_BLOCK = 16,                /* bytes of a block, a key, an IV, a MAC, a seed, M1, M3 and M5 */
@@ -76,8 +88,9 @@ enum {
     SHE_TWO_BLOCKS = 32,           /* bytes of M2 and M4, and of what GET_ID gives */
     SHE_MAX_BLOCKS = 4096,         /* blocks that one CBC takes */
     SHE_MAX_BITS = 524288,         /* bits that one MAC takes */
+    SHE_MAX_BOOTLOADER = 65536,    /* bytes of the longest bootloader */
     SHE_MAX_COUNTER = 268435455,   /* the largest counter of a key message */
-    SHE_DEVICE_BYTES = 400,        /* bytes of a device, which its parts fill without a gap */
+    SHE_DEVICE_BYTES = 404,        /* bytes of a device, which its parts fill without a gap */
     SHE_STACK_BYTES = 4096         /* room on the stack; 3,104 is the most that was measured, in she_load_key */
 };
 
@@ -155,7 +168,8 @@ uint8_t she_write_proof(const uint8_t *uid, she_length uid_len, uint32_t target,
 uint8_t she_make(struct she_device *device, const uint8_t *uid, she_length uid_len,
                  const uint8_t *secret_key, she_length secret_key_len, const uint8_t *seed, she_length seed_len);
 
-/* What loss of power does: RAM_KEY, the random numbers and the debugger's mark go; all else stays. */
+/* What loss of power does: RAM_KEY, the random numbers and every mark but that of a made device go, and with the marks the debugger
+ * and all that booting found; all else stays, also a BOOT_MAC that was learnt. */
 uint8_t she_reset(struct she_device *device);
 
 /* The bench call: a debugger is attached, until reset. Slots with DEBUGGER set are locked meanwhile. */
@@ -208,6 +222,23 @@ uint8_t she_extend_seed(struct she_device *device, const uint8_t *entropy, she_l
 
 /* The next 16 random bytes. Answers: 8 before she_init_rng. */
 uint8_t she_rnd(struct she_device *device, uint8_t *out, she_length out_len);
+
+/* The boot check, once after each reset, over a bootloader of 1 to 65,536 bytes. Its MAC is the CMAC under BOOT_MAC_KEY of twelve
+ * zero bytes, SIZE and the bootloader; SIZE is the bootloader's length in bytes, as four bytes, the most significant first. The
+ * answer is 0 in each of three ways, and the status tells which one it was:
+ *   - BOOT_MAC is empty, as on the first boot with a BOOT_MAC_KEY: the board learns. The MAC becomes BOOT_MAC, with counter 0 and
+ *     no flags, and BOOT_INIT is set. Nothing was checked, and nothing will be before the next reset.
+ *   - BOOT_MAC is the MAC, in all its bits: SECURE_BOOT and BOOT_OK are set, BOOT_FINISHED is not.
+ *   - BOOT_MAC is another: SECURE_BOOT and BOOT_FINISHED are set, BOOT_OK is not.
+ * While SECURE_BOOT is set and BOOT_OK is not, slots with BOOT set are locked; before the check they are open. Reset undoes all of
+ * this but the BOOT_MAC. Answers: 1 for a second time, 5 for no BOOT_MAC_KEY, 2 for a BOOT_MAC_KEY or a BOOT_MAC that is locked. */
+uint8_t she_secure_boot(struct she_device *device, const uint8_t *bootloader, she_length bootloader_len);
+
+/* How the stages of booting after the bootloader went, once and only after a check that succeeded. Both set BOOT_FINISHED.
+ * she_boot_failure clears BOOT_OK, so that slots with BOOT set are locked until reset; after she_boot_ok they stay open until
+ * then. Answers: 5 where no bootloader was checked since reset, also where one was learnt; 1 where booting is finished. */
+uint8_t she_boot_failure(struct she_device *device);
+uint8_t she_boot_ok(struct she_device *device);
 
 /* The status, of enum she_status_bit; *status becomes 0 where this is refused. */
 uint8_t she_get_status(struct she_device *device, uint8_t *status);

@@ -93,7 +93,7 @@ static void take_back(struct side *s, const struct call *c) {
 /* ---- telling of a difference */
 
 static void print_hex(const uint8_t *bytes, size_t length) {
-    enum { SHOWN = 400 };
+    enum { SHOWN = SHE_DEVICE_BYTES };
     for (size_t i = 0; i < length && i < SHOWN; i++) printf("%02x", bytes[i]);
     if (length > SHOWN) printf("...");
     printf(" (%zu bytes)\n", length);

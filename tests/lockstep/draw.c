@@ -8,7 +8,7 @@
 extern __typeof__(she_kdf) second_kdf;
 extern __typeof__(she_cbc_encrypt) second_cbc_encrypt;
 extern __typeof__(she_cmac) second_cmac;
-uint8_t second_flags_of(uint32_t slot); /* the flags that a slot keeps; she.h has no such function */
+extern __typeof__(she_secure_boot) second_secure_boot;
 
 #define LENGTH(array) (sizeof(array) / sizeof *(array))
 
@@ -23,9 +23,9 @@ static uint64_t splitmix(uint64_t *x) {
     return z ^ z >> 31;
 }
 
-void seed_random(uint64_t seed, uint64_t sequence) {
+static void seed_random(uint64_t seed, uint64_t number) {
     uint64_t x = seed;
-    x = splitmix(&x) ^ sequence;
+    x = splitmix(&x) ^ number;
     for (size_t i = 0; i < 4; i++) random_state[i] = splitmix(&x);
 }
 
@@ -53,7 +53,7 @@ static void fill(uint8_t *bytes, size_t length) {
     }
 }
 
-static void flip_bit(uint8_t *bytes, size_t bit) { bytes[bit / 8] ^= (uint8_t)(0x80 >> bit % 8); }
+void flip_bit(uint8_t *bytes, size_t bit) { bytes[bit / 8] ^= (uint8_t)(0x80 >> bit % 8); }
 static void flip_any_bit(uint8_t *bytes, size_t length) { flip_bit(bytes, below(8 * length)); }
 
 #define ONE_OF(array) (array)[below(LENGTH(array))]
@@ -112,7 +112,49 @@ static uint64_t draw_wide_flags(void) {
     return one_in(3) ? 0x100 + below(32) : ONE_OF(wide);
 }
 
+/* ---- bootloaders: a board has its own, with which it boots again and again, so that what was learnt agrees */
+
+static uint8_t bootloader[SHE_MAX_BOOTLOADER];
+static she_length bootloader_length;
+
+static void draw_bootloader(void) {
+    static const she_length ends[] = {1, 15, 16, 17, 32}, longest[] = {SHE_MAX_BOOTLOADER - 1, SHE_MAX_BOOTLOADER};
+    bootloader_length = one_in(100) ? ONE_OF(longest) : one_in(3) ? ONE_OF(ends) : 1 + below(80);
+    fill(bootloader, bootloader_length);
+}
+
+void begin_board(uint64_t seed, uint64_t number) {
+    seed_random(seed, number);
+    draw_bootloader();
+}
+
 /* ---- records */
+
+/* Made, and nothing in it that would have to be drawn. */
+static void bare_record(struct she_device *d) {
+    memset(d, 0, sizeof *d);
+    memset(d->empty + 1, 1, SHE_SLOTS - 1);
+    d->uid[0] = 1;
+    d->marks[SHE_MARK_MADE] = 1;
+}
+
+/* What a board with this BOOT_MAC_KEY learns of its bootloader. */
+static void learnt_mac(const struct she_device *d, uint8_t *mac) {
+    struct she_device other;
+    bare_record(&other);
+    other.empty[SHE_BOOT_MAC_KEY] = 0;
+    memcpy(other.keys + 16 * SHE_BOOT_MAC_KEY, d->keys + 16 * SHE_BOOT_MAC_KEY, 16);
+    second_secure_boot(&other, bootloader, bootloader_length);
+    memcpy(mac, other.keys + 16 * SHE_BOOT_MAC, 16);
+}
+
+/* For BOOT_MAC mostly that of the board's bootloader, at times with one bit wrong. */
+static void draw_key(const struct she_device *d, uint32_t slot, uint8_t *key) {
+    fill(key, 16);
+    if (slot != SHE_BOOT_MAC || one_in(4)) return;
+    learnt_mac(d, key);
+    if (one_in(3)) flip_bit(key, one_in(2) ? 127 : below(128));
+}
 
 /* WRITE ends all that can happen to a slot, so it is drawn less often. */
 static uint8_t draw_flags(void) {
@@ -127,18 +169,16 @@ static uint32_t draw_stored_counter(void) {
 }
 
 void make_record(struct she_device *d) {
-    memset(d, 0, sizeof *d);
-    memset(d->empty + 1, 1, SHE_SLOTS - 1);
+    bare_record(d);
     fill(d->keys, 16);
     fill(d->uid, sizeof d->uid);
     fill(d->seed, sizeof d->seed);
     d->uid[below(SHE_UID)] |= 1;
-    d->marks[SHE_MARK_MADE] = 1;
 }
 
 static void fill_slot(struct she_device *d, size_t slot) {
     d->empty[slot] = 0;
-    fill(d->keys + 16 * slot, 16);
+    draw_key(d, (uint32_t)slot, d->keys + 16 * slot);
     if (slot == SHE_RAM_KEY) {
         d->marks[SHE_MARK_PLAIN] = (uint8_t)below(2);
         return;
@@ -147,12 +187,12 @@ static void fill_slot(struct she_device *d, size_t slot) {
     d->flags[slot] = draw_flags() & second_flags_of((uint32_t)slot);
 }
 
-/* A record that many loads may have left, and with any of the marks that mean nothing yet. */
+/* A record that many loads may have left, and with any of the marks of booting and of those that mean nothing yet. */
 void rich_record(struct she_device *d) {
     make_record(d);
     for (size_t slot = 1; slot < SHE_SLOTS; slot++)
         if (below(10) < 7) fill_slot(d, slot);
-    for (size_t mark = FIRST_UNNAMED; mark < SHE_MARKS; mark++) d->marks[mark] = (uint8_t)below(2);
+    for (size_t mark = SHE_MARK_BOOTED; mark < SHE_MARKS; mark++) d->marks[mark] = (uint8_t)below(2);
     d->marks[SHE_MARK_DEBUGGER] = (uint8_t)below(2);
     d->marks[SHE_MARK_RANDOM] = (uint8_t)below(2);
     if (!d->marks[SHE_MARK_RANDOM]) return;
@@ -188,12 +228,13 @@ static void spoiled_record(struct she_device *d) {
     while (one_in(4));
 }
 
-static int is_short, is_make_next;
+static int is_short;
+static const char *next; /* the function that is called next, or NULL for any */
 
 /* Making comes as the first call, to a record that may have held anything. */
 static void draw_record(struct she_device *d) {
     uint64_t kind = below(100);
-    is_make_next = kind < 37;
+    next = kind < 37 ? "make" : NULL;
     is_short = kind >= 74;
     if (kind < 10) fill((uint8_t *)d, sizeof *d);
     else if (kind < 27) memset(d, 0, sizeof *d);
@@ -292,7 +333,7 @@ void plan_message(struct plan *p, const struct she_device *d) {
     plan_identity(p, d);
     plan_key(p, d);
     plan_first_block(p, d);
-    fill(p->new_key, sizeof p->new_key);
+    draw_key(d, p->target, p->new_key);
 }
 
 /* The message by hand, since the writers would write neither such pairs nor such fillings. */
@@ -404,6 +445,17 @@ void draw_verify(struct call *c) {
     put(c, "mac", mac, sizeof mac);
 }
 
+/* Mostly the board's own bootloader, at times with one bit wrong; now and then another. */
+void draw_boot(struct call *c) {
+    static const she_length ends[] = {0, 1, 15, 16, 17, SHE_MAX_BOOTLOADER - 1, SHE_MAX_BOOTLOADER, SHE_MAX_BOOTLOADER + 1};
+    set_open_lengths(c, bootloader_length);
+    put(c, "bootloader", bootloader, bootloader_length);
+    if (one_in(4)) flip_any_bit(bytes_of(c, "bootloader"), bootloader_length);
+    if (!one_in(60)) return;
+    set_open_lengths(c, ONE_OF(ends));
+    fill_buffers(c);
+}
+
 void draw_make(struct call *c) {
     uint8_t *uid = bytes_of(c, "uid");
     fill_buffers(c);
@@ -474,8 +526,16 @@ static const struct function *draw_function(void) {
     }
 }
 
+/* What firmware calls then: it boots after a reset, and says how the later stages went. */
+static const char *draw_next(const char *name) {
+    static const char *const ends[] = {"boot_failure", "boot_ok"};
+    if (!strcmp(name, "reset") && one_in(2)) return "secure_boot";
+    if (!strcmp(name, "secure_boot") && one_in(3)) return ONE_OF(ends);
+    return NULL;
+}
+
 void begin_sequence(uint64_t seed, uint64_t sequence, struct she_device *device) {
-    seed_random(seed, sequence);
+    begin_board(seed, sequence);
     remembered_count = 0;
     memset(device, 0, sizeof *device);
     draw_record(device);
@@ -493,9 +553,9 @@ void prepare_call(struct call *c, const struct function *f, const struct she_dev
 }
 
 void draw_call(struct call *c, const struct she_device *device) {
-    prepare_call(c, is_make_next ? function_named("make") : draw_function(), device, NULL);
+    prepare_call(c, next ? function_named(next) : draw_function(), device, NULL);
     if (one_in(14)) spoil_length(c);
-    is_make_next = 0;
+    next = draw_next(c->function->name);
 }
 
 void remember(struct call *after, uint8_t answer) {

@@ -57,6 +57,9 @@
     X(init_rng, NONE, N(NO_NUMBER), 0, A(0) | A(1) | A(12), 5, draw_plain, (DEVICE)) \
     X(extend_seed, R(entropy, 16), N(NO_NUMBER), 0, A(0) | A(8) | A(12), 4, draw_plain, (DEVICE, B(0))) \
     X(rnd, W(out, 16), N(NO_NUMBER), 0, A(0) | A(8) | A(12), 5, draw_plain, (DEVICE, B(0))) \
+    X(secure_boot, R(bootloader, 0), N(NO_NUMBER), 0, A(0) | A(1) | A(2) | A(5) | A(12), 10, draw_boot, (DEVICE, B(0))) \
+    X(boot_failure, NONE, N(NO_NUMBER), 0, A(0) | A(1) | A(5) | A(12), 4, draw_plain, (DEVICE)) \
+    X(boot_ok, NONE, N(NO_NUMBER), 0, A(0) | A(1) | A(5) | A(12), 4, draw_plain, (DEVICE)) \
     X(get_status, NONE, N(NO_NUMBER), 1, A(0) | A(12), 5, draw_plain, (DEVICE, BYTE)) \
     X(get_id, R(challenge, 16) W(out, 32), N(NO_NUMBER), 0, A(0) | A(2) | A(12), 5, draw_plain, (DEVICE, B(0), B(1)))
 

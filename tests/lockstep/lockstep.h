@@ -10,7 +10,7 @@ enum {
     MAX_BUFFERS = 6,
     MAX_NUMBERS = 4,
     LARGEST = 16 * (SHE_MAX_BLOCKS + 1), /* bytes of the longest buffer ever lent: one block too many */
-    FIRST_UNNAMED = SHE_MARK_MADE + 1    /* of a record's marks: from here on they mean nothing yet */
+    FIRST_UNNAMED = SHE_MARK_BOOT_OK + 1 /* of a record's marks: from here on they mean nothing yet */
 };
 
 /* What is lent to a call: the record, the byte for a verdict or a status, and the buffers in the order of the parameters. */
@@ -32,7 +32,7 @@ enum number_kind { NO_NUMBER, SLOT, TARGET, AUTHORITY, BITS, MAC_BITS, COUNTER, 
 struct buffer {
     const char *name;
     int is_written;
-    she_length length; /* 0: as the other parameters demand */
+    she_length length; /* 0: as the other parameters demand, or as it comes */
 };
 
 struct call;
@@ -96,7 +96,7 @@ void draw_call(struct call *c, const struct she_device *device);
 void remember(struct call *after, uint8_t answer); /* key messages that succeeded come again */
 
 /* Its parts, for those who want something particular. */
-void seed_random(uint64_t seed, uint64_t sequence);
+void begin_board(uint64_t seed, uint64_t number); /* the random numbers, and a bootloader to boot with again and again */
 void make_record(struct she_device *d); /* as made */
 void rich_record(struct she_device *d); /* as many loads may have left it */
 /* A call with right lengths and with these numbers, or with drawn ones for NULL. */
@@ -121,6 +121,7 @@ void plan_message(struct plan *p, const struct she_device *d);
 void build_message(const struct plan *p, struct message *m);
 void put_message(struct call *c, const struct message *m);
 void put(struct call *c, const char *buffer, const uint8_t *bytes, size_t length);
+void flip_bit(uint8_t *bytes, size_t bit); /* from the most significant of the first byte on */
 
 void draw_plain(struct call *c);
 void draw_cbc(struct call *c);
@@ -129,6 +130,10 @@ void draw_verify(struct call *c);
 void draw_make(struct call *c);
 void draw_writer(struct call *c);
 void draw_load(struct call *c);
+void draw_boot(struct call *c);
+
+/* The flags that a slot keeps, as the second has them: she.h has no such function. */
+uint8_t second_flags_of(uint32_t slot);
 
 /* ---- seen.c: what was seen, and what ought to have been */
 void count_call(const struct call *after, const struct she_device *before, uint8_t answer);

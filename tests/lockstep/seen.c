@@ -18,12 +18,26 @@ static uint64_t calls;
     X(NO_FOR_LAST_BIT, "VERIFY_MAC: no, for the last bit compared alone") \
     X(VERIFIED_BY_BOOT_MAC_KEY, "VERIFY_MAC: with BOOT_MAC_KEY") \
     X(STATUS_0, "GET_STATUS: 0") \
+    X(STATUS_4, "GET_STATUS: 4, the bootloader learnt") \
+    X(STATUS_10, "GET_STATUS: 10, the boot failed") \
+    X(STATUS_18, "GET_STATUS: 18, the bootloader agreed") \
+    X(STATUS_26, "GET_STATUS: 26, and the boot finished") \
     X(STATUS_32, "GET_STATUS: 32") \
     X(STATUS_64, "GET_STATUS: 64") \
     X(STATUS_96, "GET_STATUS: 96") \
     X(MARKED_BUT_NOT_MADE, "GET_STATUS: 12, though the made mark is on") \
     X(RESET_WITH_UNNAMED, "RESET: with a mark on that means nothing yet") \
     X(MADE_OVER_UNNAMED, "MAKE: over a mark on that means nothing yet") \
+    X(LEARNT, "SECURE_BOOT: learnt") \
+    X(AGREED, "SECURE_BOOT: agreed") \
+    X(FAILED, "SECURE_BOOT: failed") \
+    X(FAILED_OVER_OK, "SECURE_BOOT: failed, with BOOT_OK on before") \
+    X(LONGEST_BOOT, "SECURE_BOOT: of 65,536 bytes") \
+    X(TOO_LONG_BOOT, "SECURE_BOOT: of 65,537 bytes refused") \
+    X(EMPTY_BOOT, "SECURE_BOOT: of 0 bytes refused") \
+    X(FAILURE_AFTER_OK, "BOOT_FAILURE: 1 after BOOT_OK") \
+    X(OK_AFTER_FAILURE, "BOOT_OK: 1 after a boot that failed") \
+    X(LOCKED_BY_BOOT, "a slot locked by BOOT alone") \
     X(ID_WITHOUT_MAC, "GET_ID: without a MASTER_ECU_KEY") \
     X(EMPTY_MAC, "a MAC of 0 bits") \
     X(UNEVEN_MAC, "a MAC of bits that fill no byte") \
@@ -42,7 +56,8 @@ static uint64_t calls;
     X(LOADED_OVER_PLAIN, "LOAD_KEY: over a plain RAM_KEY") \
     X(LOADED_LARGEST, "LOAD_KEY: with the largest counter") \
     X(LOADED_DROPPING, "LOAD_KEY: with a flag that the slot hasn't") \
-    X(LOADED_LOCKED_TARGET, "LOAD_KEY: into a locked slot") \
+    X(LOADED_LOCKED_BY_DEBUGGER, "LOAD_KEY: into a slot that DEBUGGER locks") \
+    X(LOADED_LOCKED_BY_BOOT, "LOAD_KEY: into a slot that BOOT locks") \
     X(LOADED_AGAIN, "LOAD_KEY: a message written or used before") \
     X(REFUSED_FORGED, "LOAD_KEY: 7 for a wrong M3 alone") \
     X(REFUSED_OTHER_BOARD, "LOAD_KEY: 7 for another board's UID' alone") \
@@ -82,6 +97,10 @@ static void look_at_status(const struct call *c, uint8_t answer) {
     see(MARKED_BUT_NOT_MADE, answer != SHE_NO_ERROR && c->device.marks[SHE_MARK_MADE] == 1);
     if (answer != SHE_NO_ERROR) return;
     see(STATUS_0, status == 0);
+    see(STATUS_4, status == 4);
+    see(STATUS_10, status == 10);
+    see(STATUS_18, status == 18);
+    see(STATUS_26, status == 26);
     see(STATUS_32, status == 32);
     see(STATUS_64, status == 64);
     see(STATUS_96, status == 96);
@@ -91,6 +110,19 @@ static int has_unnamed(const struct she_device *d) {
     for (size_t mark = FIRST_UNNAMED; mark < SHE_MARKS; mark++)
         if (d->marks[mark]) return 1;
     return 0;
+}
+
+static void look_at_boot(const struct call *c, const struct she_device *before, uint8_t answer) {
+    she_length length = c->piece[BUFFERS].length;
+    int is_done = answer == SHE_NO_ERROR, is_check = is_done && !before->empty[SHE_BOOT_MAC];
+    int is_ok = c->device.marks[SHE_MARK_BOOT_OK];
+    see(LEARNT, is_done && !is_check);
+    see(AGREED, is_check && is_ok);
+    see(FAILED, is_check && !is_ok);
+    see(FAILED_OVER_OK, is_check && !is_ok && before->marks[SHE_MARK_BOOT_OK]);
+    see(LONGEST_BOOT, is_done && length == SHE_MAX_BOOTLOADER);
+    see(TOO_LONG_BOOT, answer == SHE_GENERAL_ERROR && length == SHE_MAX_BOOTLOADER + 1);
+    see(EMPTY_BOOT, answer == SHE_GENERAL_ERROR && length == 0);
 }
 
 static void look_at_mac(const struct call *c, uint8_t answer) {
@@ -113,6 +145,8 @@ static int is_wildcard(const uint8_t *uid) {
     return !memcmp(uid, zeros, SHE_UID);
 }
 
+static int has_failed(const struct she_device *d) { return d->marks[SHE_MARK_SECURE_BOOT] && !d->marks[SHE_MARK_BOOT_OK]; }
+
 static void look_at_loaded(const struct call *c, const struct she_device *before) {
     const uint8_t *m1 = c->piece[BUFFERS].bytes;
     unsigned target = m1[15] / 16, authority = m1[15] % 16;
@@ -127,7 +161,8 @@ static void look_at_loaded(const struct call *c, const struct she_device *before
     see(LOADED_OVER_PLAIN, into_ram && before->marks[SHE_MARK_PLAIN]);
     see(LOADED_LARGEST, c->device.counters[target] == SHE_MAX_COUNTER);
     see(LOADED_DROPPING, c->traits & DROPPED_FLAG && !into_ram);
-    see(LOADED_LOCKED_TARGET, before->marks[SHE_MARK_DEBUGGER] && before->flags[target] & SHE_DEBUGGER);
+    see(LOADED_LOCKED_BY_DEBUGGER, before->marks[SHE_MARK_DEBUGGER] && before->flags[target] & SHE_DEBUGGER);
+    see(LOADED_LOCKED_BY_BOOT, has_failed(before) && before->flags[target] & SHE_BOOT);
     see(LOADED_AGAIN, c->traits & REPLAYED);
 }
 
@@ -148,9 +183,14 @@ void count_call(const struct call *after, const struct she_device *before, uint8
     if (is_named(after, "get_status")) look_at_status(after, answer);
     if (is_named(after, "reset")) see(RESET_WITH_UNNAMED, answer == SHE_NO_ERROR && has_unnamed(before));
     if (is_named(after, "make")) see(MADE_OVER_UNNAMED, answer == SHE_NO_ERROR && has_unnamed(before));
+    if (is_named(after, "secure_boot")) look_at_boot(after, before, answer);
+    if (is_named(after, "boot_failure")) see(FAILURE_AFTER_OK, answer == SHE_SEQUENCE_ERROR && !has_failed(before));
+    if (is_named(after, "boot_ok")) see(OK_AFTER_FAILURE, answer == SHE_SEQUENCE_ERROR && has_failed(before));
     if (is_named(after, "get_id")) see(ID_WITHOUT_MAC, answer == SHE_NO_ERROR && before->empty[SHE_MASTER_ECU_KEY]);
     if (is_named(after, "load_key") && answer == SHE_NO_ERROR) look_at_loaded(after, before);
     if (is_named(after, "load_key") && answer == SHE_KEY_UPDATE_ERROR) look_at_refused(after);
+    /* without a debugger nothing but BOOT locks */
+    see(LOCKED_BY_BOOT, answer == SHE_KEY_NOT_AVAILABLE && !before->marks[SHE_MARK_DEBUGGER]);
     see(WIDE_SLOT, answer == SHE_KEY_INVALID && number_of(after, SLOT, 0) > 255);
     look_at_mac(after, answer);
     look_at_cbc(after, answer);
@@ -158,8 +198,8 @@ void count_call(const struct call *after, const struct she_device *before, uint8
 
 uint64_t calls_counted(void) { return calls; }
 
-/* Answers 5 and 9 to 11 aren't given by anything yet, so they have no column. */
-static const unsigned columns[] = {0, 1, 2, 3, 4, 6, 7, 8, 12};
+/* Answers 9 to 11 aren't given by anything yet, so they have no column. */
+static const unsigned columns[] = {0, 1, 2, 3, 4, 5, 6, 7, 8, 12};
 enum { COLUMNS = sizeof columns / sizeof *columns };
 
 void print_counts(void) {

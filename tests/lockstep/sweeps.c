@@ -19,6 +19,12 @@ static uint8_t run(void) {
     return call_both(&c, where);
 }
 
+/* The device is left as the call leaves it. */
+static void run_on(struct she_device *d) {
+    run();
+    *d = c.device;
+}
+
 static int takes(const struct function *f, enum number_kind kind) {
     for (size_t i = 0; f->numbers[i] != NO_NUMBER; i++)
         if (f->numbers[i] == kind) return 1;
@@ -36,12 +42,18 @@ static void sweep_record(const struct she_device *d) {
         }
 }
 
-/* Every function with every set of marks on: what counts as made by them, and what becomes of those that mean nothing yet. */
+/* The marks from one on to another, which is left out, on or off as the bits of a number. */
+static void put_marks(struct she_device *d, size_t from, size_t to, unsigned set) {
+    for (size_t mark = from; mark < to; mark++) d->marks[mark] = set >> (mark - from) & 1;
+}
+
+/* Every function with every set of the marks that mean something on, and the others as the record has them: what counts as made,
+ * and what becomes of each mark. */
 static void sweep_marks(const struct she_device *d) {
     for (const struct function *f = functions; f < functions + function_count; f++)
-        for (unsigned set = 0; set < 1u << SHE_MARKS; set++) {
+        for (unsigned set = 0; set < 1u << FIRST_UNNAMED; set++) {
             prepare_call(&c, f, d, NULL);
-            for (size_t mark = 0; mark < SHE_MARKS; mark++) c.device.marks[mark] = set >> mark & 1;
+            put_marks(&c.device, 0, FIRST_UNNAMED, set);
             run();
         }
 }
@@ -127,7 +139,7 @@ static void sweep_damage(const struct she_device *d) {
         plan_load(&p, d, SHE_RAM_KEY, SHE_SECRET_KEY);
         prepare_call(&c, function_named("load_key"), d, NULL);
         build_message(&p, &m);
-        ((uint8_t *)&m)[bit / 8] ^= (uint8_t)(0x80 >> bit % 8);
+        flip_bit((uint8_t *)&m, bit);
         put_message(&c, &m);
         run();
     }
@@ -158,9 +170,98 @@ static void sweep_mac_bits(const struct she_device *made) {
         uint8_t mac[16];
         prepare_call(&c, function_named("verify_mac"), &d, numbers);
         second_cmac(d.keys + 16 * SHE_RAM_KEY, 16, numbers[1], c.piece[BUFFERS].bytes, c.piece[BUFFERS].length, mac, 16);
-        if (i % 129 < 128) mac[i % 129 / 8] ^= (uint8_t)(0x80 >> i % 129 % 8);
+        if (i % 129 < 128) flip_bit(mac, i % 129);
         put(&c, "mac", mac, sizeof mac);
         run();
+    }
+}
+
+/* Every slot filled and with these flags, as far as it keeps them; of the KEY_n every second one is for MACs. */
+static struct she_device flagged(const struct she_device *made, unsigned flags) {
+    struct she_device d = *made;
+    for (uint32_t slot = SHE_MASTER_ECU_KEY; slot < SHE_SLOTS; slot++) {
+        d.empty[slot] = 0;
+        d.flags[slot] = (uint8_t)(flags | (slot % 2 ? SHE_KEY_USAGE : 0)) & second_flags_of(slot);
+    }
+    return d;
+}
+
+/* A function that a lock can refuse, with this slot to use or to load by itself. */
+static void run_lockable(const struct function *f, const struct she_device *d, uint32_t slot) {
+    uint64_t numbers[MAX_NUMBERS] = {slot, 128, 0, 0};
+    struct plan p;
+    if (!strcmp(f->name, "load_key")) {
+        plan_load(&p, d, slot, slot);
+        run_load(&p, d);
+        return;
+    }
+    prepare_call(&c, f, d, numbers);
+    run();
+}
+
+/* Every set of the marks of booting, with a debugger and without, and with every set of the flags that lock. */
+static void sweep_locks(const struct she_device *made) {
+    enum { BOOT_SETS = 1 << (FIRST_UNNAMED - SHE_MARK_BOOTED) };
+    static const uint32_t slots[] = {SHE_MASTER_ECU_KEY, SHE_BOOT_MAC_KEY, SHE_KEY_1, SHE_KEY_1 + 1, SHE_RAM_KEY};
+    for (unsigned i = 0; i < 8 * BOOT_SETS; i++) {
+        struct she_device d = flagged(made, i % 4 * SHE_DEBUGGER); /* BOOT is the flag after it */
+        d.marks[SHE_MARK_DEBUGGER] = i / 4 % 2;
+        put_marks(&d, SHE_MARK_BOOTED, FIRST_UNNAMED, i / 8);
+        for (const struct function *f = functions; f < functions + function_count; f++)
+            for (size_t k = 0; f->answers >> SHE_KEY_NOT_AVAILABLE & 1 && k < LENGTH(slots); k++) run_lockable(f, &d, slots[k]);
+    }
+}
+
+/* With some BOOT_MAC_KEY, and without a BOOT_MAC. */
+static struct she_device unlearnt(const struct she_device *made) {
+    struct she_device d = *made;
+    d.empty[SHE_BOOT_MAC_KEY] = 0;
+    memcpy(d.keys + 16 * SHE_BOOT_MAC_KEY, d.keys, 16);
+    d.empty[SHE_BOOT_MAC] = 1;
+    d.counters[SHE_BOOT_MAC] = d.flags[SHE_BOOT_MAC] = 0;
+    memset(d.keys + 16 * SHE_BOOT_MAC, 0, 16);
+    return d;
+}
+
+/* A reset, and a boot with these bytes. */
+static void run_boot(struct she_device *d, const uint8_t *bootloader, size_t length) {
+    prepare_call(&c, function_named("reset"), d, NULL);
+    run_on(d);
+    prepare_call(&c, function_named("secure_boot"), d, NULL);
+    put(&c, "bootloader", bootloader, length);
+    set_length(&c, 0, length);
+    run_on(d);
+}
+
+/* Every length at which something may turn: learnt, found again, and with a bit changed. */
+static void sweep_bootloaders(const struct she_device *made) {
+    static const size_t lengths[] = {0, 1, 15, 16, 17, SHE_MAX_BOOTLOADER - 1, SHE_MAX_BOOTLOADER, SHE_MAX_BOOTLOADER + 1};
+    static uint8_t bootloader[LARGEST];
+    for (size_t i = 0; i < sizeof bootloader; i++) bootloader[i] = (uint8_t)(i * 29 ^ i >> 8);
+    for (size_t i = 0; i < LENGTH(lengths); i++) {
+        struct she_device d = unlearnt(made);
+        run_boot(&d, bootloader, lengths[i]);
+        run_boot(&d, bootloader, lengths[i]);
+        flip_bit(bootloader, 4 * lengths[i]);
+        run_boot(&d, bootloader, lengths[i]);
+    }
+}
+
+/* Every bit of a bootloader that ends within a block, and every bit of its BOOT_MAC. */
+static void sweep_boot_bits(const struct she_device *made) {
+    uint8_t bootloader[33] = {0};
+    struct she_device learnt = unlearnt(made), d;
+    run_boot(&learnt, bootloader, sizeof bootloader);
+    for (size_t bit = 0; bit < 8 * sizeof bootloader; bit++) {
+        d = learnt;
+        flip_bit(bootloader, bit);
+        run_boot(&d, bootloader, sizeof bootloader);
+        flip_bit(bootloader, bit);
+    }
+    for (size_t bit = 0; bit < 128; bit++) {
+        d = learnt;
+        flip_bit(d.keys + 16 * SHE_BOOT_MAC, bit);
+        run_boot(&d, bootloader, sizeof bootloader);
     }
 }
 
@@ -190,6 +291,7 @@ static const struct {
     {"writers", sweep_writers},        {"slot bytes", sweep_slot_bytes}, {"flags", sweep_flags},
     {"filler", sweep_filler},          {"damage", sweep_damage},         {"counters", sweep_counters},
     {"bits compared", sweep_mac_bits}, {"bits", sweep_bits},             {"lengths", sweep_lengths},
+    {"boot bits", sweep_boot_bits},    {"locks", sweep_locks},           {"bootloaders", sweep_bootloaders},
 };
 
 int run_sweeps(uint64_t from) {
@@ -201,7 +303,7 @@ int run_sweeps(uint64_t from) {
         calls = 0;
         for (uint64_t k = 0; k < RECORDS; k++) {
             struct she_device d;
-            seed_random(seed, k);
+            begin_board(seed, k);
             (k % 3 ? rich_record : make_record)(&d);
             sweeps[i].sweep(&d);
         }

@@ -135,7 +135,7 @@ pub fn xor(a: &Block, b: &Block) -> Block {
 }
 
 fn substitute(state: &Block, table: &Table) -> Block {
-    state.map(|byte| table[byte as usize])
+    std::array::from_fn(|i| table[state[i] as usize])
 }
 
 /// FIPS 197, 5.1.2: row r turns left by r. Byte i of a block stands in row i mod 4 and column i / 4.

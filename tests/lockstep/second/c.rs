@@ -223,6 +223,21 @@ pub unsafe extern "C" fn second_rnd(device: &mut Record, out: *mut u8, out_len: 
 }
 
 #[no_mangle]
+pub unsafe extern "C" fn second_secure_boot(device: &mut Record, bootloader: *const u8, bootloader_len: usize) -> u8 {
+    number(&device.command(|d| d.secure_boot(lent(bootloader, bootloader_len))))
+}
+
+#[no_mangle]
+pub unsafe extern "C" fn second_boot_failure(device: &mut Record) -> u8 {
+    number(&device.command(|d| d.boot_failure()))
+}
+
+#[no_mangle]
+pub unsafe extern "C" fn second_boot_ok(device: &mut Record) -> u8 {
+    number(&device.command(|d| d.boot_ok()))
+}
+
+#[no_mangle]
 pub unsafe extern "C" fn second_get_status(device: &mut Record, status: *mut u8) -> u8 {
     number_and_byte(device.command(|d| Ok(d.status())), status)
 }

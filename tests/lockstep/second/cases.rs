@@ -89,6 +89,13 @@ fn text(length: u64) -> Vec<u8> {
     front(&[TEXT; MOST], length).to_vec()
 }
 
+/// All of the text, with a bit changed.
+fn text_with(bit: u64) -> Vec<u8> {
+    let mut changed = text(ABSENT);
+    flip(&mut changed, bit);
+    changed
+}
+
 fn filler(length: u64) -> Vec<u8> {
     front(&[FILLER; MOST], length).to_vec()
 }
@@ -210,9 +217,8 @@ fn use_slot(device: &Device, name: &str, n: &Numbers, output: &mut [u8]) -> Answ
 /// Asks for the MAC that a block is, each with a bit changed.
 fn verify(device: &Device, block: &Block, n: &Numbers) -> Answer<bool> {
     let mut mac = [*block, [TEXT; 16]].concat();
-    let mut message = text(ABSENT);
+    let message = text_with(n[6]);
     flip(&mut mac, n[5]);
-    flip(&mut message, n[6]);
     device.verify_mac(byte(n[0]).into(), n[3], front(&message, n[1]), front(&mac, n[2]), byte(n[4]).into())
 }
 
@@ -312,6 +318,9 @@ impl Bench {
             "RESET" => self.change(|d| d.reset()),
             "DEBUGGER" => self.change(|d| d.attach_debugger()),
             "INIT_RNG" => self.change(|d| d.init_rng()),
+            "SECURE_BOOT" => self.change(|d| d.secure_boot(front(&text_with(n[1]), n[0]))),
+            "BOOT_FAILURE" => self.change(|d| d.boot_failure()),
+            "BOOT_OK" => self.change(|d| d.boot_ok()),
             "EXTEND_SEED" => self.change(|d| d.extend_seed(&lent(&ENTROPY, n[0]))),
             "LOAD_PLAIN_KEY" => self.change(|d| d.load_plain_key(&lent(&slot_key(byte(n[0])), n[1]))),
             "RND" => self.rnd(n[0]),

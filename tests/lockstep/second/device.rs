@@ -7,9 +7,13 @@ use crate::aes::{Aes, Block};
 use crate::algorithms::{check_cbc, check_mac, many_blocks, one_block, Way};
 use crate::answer::{demand, exactly, Answer, Refusal};
 use crate::messages::*;
-use crate::modes::{cmac, cmac_of_blocks, extend, kdf, PRNG_KEY_C, PRNG_SEED_KEY_C};
+use crate::modes::{cmac, cmac_of_bytes, extend, kdf, PRNG_KEY_C, PRNG_SEED_KEY_C};
 
-const MARKS: usize = 7;
+const UNNAMED: usize = 2;
+const MARKS: usize = 9 + UNNAMED;
+
+/// Bytes of the longest bootloader (house).
+const MAX_BOOTLOADER: usize = 65_536;
 
 /// The record as it is lent and stored: the layout of the C header, without a byte between its parts or after them.
 #[repr(C)]
@@ -26,7 +30,7 @@ pub struct Record {
     pub marks: [u8; MARKS],
 }
 
-const _: () = assert!(std::mem::size_of::<Record>() == 400);
+const _: () = assert!(std::mem::size_of::<Record>() == 404);
 
 /// What a slot that isn't empty holds.
 #[derive(Clone, Copy)]
@@ -43,6 +47,24 @@ struct Random {
     key: Block,
 }
 
+/// What became of booting since the last reset (4.10). `booted` says that SECURE_BOOT succeeded, and the others are bits of the
+/// status. A record may hold any of them: no rule ties one to another.
+#[derive(Clone, Copy, Default)]
+struct Boot {
+    booted: bool,
+    secure_boot: bool,
+    init: bool,
+    finished: bool,
+    ok: bool,
+}
+
+impl Boot {
+    /// The bootloader was checked, and either it or a later stage was found bad.
+    fn has_failed(&self) -> bool {
+        self.secure_boot && !self.ok
+    }
+}
+
 #[derive(Clone)]
 pub struct Device {
     slots: [Option<Key>; SLOTS],
@@ -50,8 +72,9 @@ pub struct Device {
     seed: Block,
     random: Option<Random>,
     debugger: bool,
-    /// The marks that mean nothing yet (house). They are off in a new device, and stay whatever they are.
-    unnamed: [bool; 3],
+    boot: Boot,
+    /// The marks that mean nothing yet (house). They are off in a new device and after a reset, and else stay whatever they are.
+    unnamed: [bool; UNNAMED],
 }
 
 /// A mark is a byte, 1 for on and 0 for off (house); another byte is none.
@@ -122,7 +145,7 @@ impl Record {
 impl Device {
     /// The device that a record holds, if it counts as made.
     pub fn read(record: &Record) -> Option<Device> {
-        let [random, plain, debugger, made, unnamed @ ..] = record.marks()?;
+        let [random, plain, debugger, made, booted, secure_boot, init, finished, ok, unnamed @ ..] = record.marks()?;
         if !made || record.uid == [0; 15] {
             return None;
         }
@@ -131,7 +154,8 @@ impl Device {
             *slot = record.slot(number, plain)?;
         }
         let random = record.random(random)?;
-        Some(Device { slots, uid: record.uid, seed: record.seed, random, debugger, unnamed })
+        let boot = Boot { booted, secure_boot, init, finished, ok };
+        Some(Device { slots, uid: record.uid, seed: record.seed, random, debugger, boot, unnamed })
     }
 
     pub fn write(&self, record: &mut Record) {
@@ -143,13 +167,20 @@ impl Device {
             record.empty[number] = slot.is_none().into();
         }
         let random = self.random.unwrap_or(Random { state: [0; 16], key: [0; 16] });
-        let plain = self.slots[RAM_KEY as usize].map_or(false, |key| key.plain);
-        let [fifth, sixth, seventh] = self.unnamed;
         record.uid = self.uid;
         record.seed = self.seed;
         record.state = random.state;
         record.rngkey = random.key;
-        record.marks = [self.random.is_some(), plain, self.debugger, true, fifth, sixth, seventh].map(u8::from);
+        record.marks = self.marks().map(u8::from);
+    }
+
+    /// In their order.
+    fn marks(&self) -> [bool; MARKS] {
+        let random = self.random.is_some();
+        let plain = self.slots[RAM_KEY as usize].map_or(false, |key| key.plain);
+        let Boot { booted, secure_boot, init, finished, ok } = self.boot;
+        let [tenth, eleventh] = self.unnamed;
+        [random, plain, self.debugger, true, booted, secure_boot, init, finished, ok, tenth, eleventh]
     }
 
     /// 4.4.4.2: a UID is never zero, for zero is the wildcard.
@@ -160,7 +191,7 @@ impl Device {
         demand(uid != [0; 15], Refusal::GeneralError)?;
         let mut slots = [None; SLOTS];
         slots[SECRET_KEY as usize] = Some(Key { bytes, counter: 0, flags: 0, plain: false });
-        Ok(Device { slots, uid, seed, random: None, debugger: false, unnamed: [false; 3] })
+        Ok(Device { slots, uid, seed, random: None, debugger: false, boot: Boot::default(), unnamed: [false; UNNAMED] })
     }
 
     /// 4.4.3: what is volatile goes.
@@ -168,6 +199,8 @@ impl Device {
         self.slots[RAM_KEY as usize] = None;
         self.random = None;
         self.debugger = false;
+        self.boot = Boot::default();
+        self.unnamed = [false; UNNAMED];
         Ok(())
     }
 
@@ -178,7 +211,7 @@ impl Device {
     }
 
     fn is_locked(&self, key: &Key) -> bool {
-        self.debugger && key.flags & DEBUGGER != 0
+        self.debugger && key.flags & DEBUGGER != 0 || self.boot.has_failed() && key.flags & BOOT != 0
     }
 
     /// The key of a slot for a use, once lengths are right. Order: a slot that can never have the role (3), empty (4),
@@ -323,9 +356,60 @@ impl Device {
         Ok(())
     }
 
-    /// 4.6: bit 5 is RND_INIT and bit 6 EXT_DEBUGGER.
+    /// 4.7.13: a board without a BOOT_MAC learns its bootloader, and another compares. Once between resets (house).
+    pub fn secure_boot(&mut self, bootloader: &[u8]) -> Answer<()> {
+        demand((1..=MAX_BOOTLOADER).contains(&bootloader.len()), Refusal::GeneralError)?;
+        demand(!self.boot.booted, Refusal::SequenceError)?;
+        let mac_key = self.slots[BOOT_MAC_KEY as usize].ok_or(Refusal::NoSecureBoot)?;
+        let boot_mac = self.slots[BOOT_MAC as usize];
+        let is_free = |key: &Key| !self.is_locked(key);
+        demand(is_free(&mac_key) && boot_mac.iter().all(is_free), Refusal::KeyNotAvailable)?;
+        let mac = measure(&mac_key.bytes, bootloader);
+        self.boot.booted = true;
+        match boot_mac {
+            None => self.learn(mac),
+            Some(key) => self.judge(mac == key.bytes),
+        }
+        Ok(())
+    }
+
+    fn learn(&mut self, mac: Block) {
+        self.slots[BOOT_MAC as usize] = Some(Key { bytes: mac, counter: 0, flags: 0, plain: false });
+        self.boot.init = true;
+    }
+
+    /// Both of the last are written, whatever the record held.
+    fn judge(&mut self, agrees: bool) {
+        self.boot.secure_boot = true;
+        self.boot.ok = agrees;
+        self.boot.finished = !agrees;
+    }
+
+    /// 4.7.14: a later stage was found bad, which is as if the bootloader had been.
+    pub fn boot_failure(&mut self) -> Answer<()> {
+        self.finish_boot()?;
+        self.boot.ok = false;
+        Ok(())
+    }
+
+    /// 4.7.15: all later stages were found good.
+    pub fn boot_ok(&mut self) -> Answer<()> {
+        self.finish_boot()
+    }
+
+    /// After a check alone, and once.
+    fn finish_boot(&mut self) -> Answer<()> {
+        demand(self.boot.secure_boot, Refusal::NoSecureBoot)?;
+        demand(!self.boot.finished, Refusal::SequenceError)?;
+        self.boot.finished = true;
+        Ok(())
+    }
+
+    /// 4.6: bit 0 would be BUSY; bit 5 is RND_INIT and bit 6 EXT_DEBUGGER.
     pub fn status(&self) -> u8 {
-        u8::from(self.random.is_some()) << 5 | u8::from(self.debugger) << 6
+        let Boot { secure_boot, init, finished, ok, .. } = self.boot;
+        let bits = [false, secure_boot, init, finished, ok, self.random.is_some(), self.debugger];
+        bits.iter().enumerate().map(|(place, &is_on)| u8::from(is_on) << place).sum()
     }
 
     /// 4.7.17: the MAC is zero while there is no MASTER_ECU_KEY.
@@ -337,12 +421,19 @@ impl Device {
             None => [0; 16],
             Some(key) => {
                 demand(!self.is_locked(&key), Refusal::KeyNotAvailable)?;
-                cmac_of_blocks(&key.bytes, &[&challenge[..], &identity].concat())
+                cmac_of_bytes(&key.bytes, &[&challenge[..], &identity].concat())
             }
         };
         output.copy_from_slice(&[&identity[..], &mac].concat());
         Ok(())
     }
+}
+
+/// 4.10: the MAC of 96 zero bits, SIZE in 32 and the bootloader. SIZE counts bytes (house), and as a number of 128 bits it has the
+/// zeros before it.
+fn measure(key: &Block, bootloader: &[u8]) -> Block {
+    let size = (bootloader.len() as u128).to_be_bytes();
+    cmac_of_bytes(key, &[&size, bootloader].concat())
 }
 
 /// Table 4.4, for the commands that name a slot.

@@ -36,7 +36,7 @@ fn beginning(random: &mut Random) -> String {
         let [id, secret, seed] = [15, 16, 16].map(|right| length(right, random));
         return format!("MAKE UID {uid} of {id} bytes, SECRET_KEY of {secret}, seed of {seed}, bit {bit} changed");
     }
-    let (last, flags) = (random.one_of(&[0, 1, 5, 13]), random.one_of(&[0, 0, 2, 4, 6]));
+    let (last, flags) = (random.one_of(&[0, 1, 2, 2, 5, 13]), random.one_of(&[0, 0, 2, 4, 6, 8, 10]));
     format!("DEVICE with slots up to {last}, flags {flags}")
 }
 
@@ -48,7 +48,7 @@ fn damage(random: &mut Random) -> String {
 }
 
 fn line(random: &mut Random) -> String {
-    match random.below(44) {
+    match random.below(48) {
         0..=2 => one_block("ENC_ECB", random),
         3..=4 => one_block("DEC_ECB", random),
         5..=6 => chain("ENC_CBC", random),
@@ -64,6 +64,8 @@ fn line(random: &mut Random) -> String {
         40 => "GET_STATUS".to_string(),
         41 => "RESET".to_string(),
         42 => "DEBUGGER attached".to_string(),
+        43..=45 => boot(random),
+        46 => random.one_of(&["BOOT_FAILURE", "BOOT_OK"]).to_string(),
         _ => strange(random),
     }
 }
@@ -106,6 +108,17 @@ fn mac(random: &mut Random) -> String {
     let asked = format!("VERIFY_MAC with slot {by}, {} bytes, MAC of {}", length(size, random), length(16, random));
     let asked = format!("{asked}, {bits} bits, MAC length {compared}, bit {changed} changed, bit {changed_late} of the message");
     format!("{made}, {bits} bits\n{asked}")
+}
+
+/// A boot, mostly after a reset and with the same bootloader, so that what was learnt agrees; and how its later stages went.
+fn boot(random: &mut Random) -> String {
+    let short = random.one_of(&[40, 40, 40, 40, 1, 15, 16, 17]);
+    let size = if random.one_in(12) { random.one_of(&[0, 65_535, 65_536, 65_537]) } else { short };
+    let any = random.below(8 * short);
+    let changed = random.one_of(&[NONE, NONE, NONE, any]);
+    let before = random.one_of(&["RESET\n", "RESET\n", ""]);
+    let after = random.one_of(&["\nBOOT_FAILURE", "\nBOOT_OK", ""]);
+    format!("{before}SECURE_BOOT with {size} bytes, bit {changed} changed{after}")
 }
 
 /// How much of M1 to M5 is lent, mostly left out.

@@ -2,7 +2,7 @@
 
 use crate::aes::{Aes, Block};
 use crate::answer::{demand, exactly, Answer, Refusal};
-use crate::modes::{cbc_decrypt, cbc_encrypt, cmac_of_blocks, kdf, KEY_UPDATE_ENC_C, KEY_UPDATE_MAC_C};
+use crate::modes::{cbc_decrypt, cbc_encrypt, cmac_of_bytes, kdf, KEY_UPDATE_ENC_C, KEY_UPDATE_MAC_C};
 
 pub type Uid = [u8; 15];
 pub type TwoBlocks = [u8; 32];
@@ -104,7 +104,7 @@ impl Head {
 
 /// M3: the CMAC of M1 and M2 under K2.
 pub fn seal(authority_key: &Block, m1: &Block, m2: &TwoBlocks) -> Block {
-    cmac_of_blocks(&kdf(authority_key, &KEY_UPDATE_MAC_C), &[&m1[..], m2].concat())
+    cmac_of_bytes(&kdf(authority_key, &KEY_UPDATE_MAC_C), &[&m1[..], m2].concat())
 }
 
 /// The clear text of M2.
@@ -138,7 +138,7 @@ pub fn proof(head: &Head, counter: u32, new_key: &Block) -> Proof {
     let clear = ((counter as u128) << 100 | 1 << 99).to_be_bytes();
     let hidden = Aes::new(&kdf(new_key, &KEY_UPDATE_ENC_C)).encrypt(&clear);
     let m4: TwoBlocks = exactly(&[head.pack(), hidden].concat()).unwrap();
-    Proof { m4, m5: cmac_of_blocks(&kdf(new_key, &KEY_UPDATE_MAC_C), &m4) }
+    Proof { m4, m5: cmac_of_bytes(&kdf(new_key, &KEY_UPDATE_MAC_C), &m4) }
 }
 
 /// The buffers for M1 to M3 or for M4 and M5, as they are lent: of any length.

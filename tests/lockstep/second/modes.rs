@@ -68,9 +68,12 @@ fn double(block: Block) -> Block {
     (number << 1 ^ carry).to_be_bytes()
 }
 
-/// The CMAC of whole blocks, as the key messages use it.
-pub fn cmac_of_blocks(key: &Block, message: &[u8]) -> Block {
-    cmac(key, 8 * message.len() as u64, message)
+/// The CMAC of whole bytes, which need not fill their last block.
+pub fn cmac_of_bytes(key: &Block, message: &[u8]) -> Block {
+    let bits = 8 * message.len() as u64;
+    let mut blocks = message.to_vec();
+    blocks.resize(16 * blocks_of_bits(bits) as usize, 0);
+    cmac(key, bits, &blocks)
 }
 
 /// 4.3.3: out(i) = AES under out(i-1) of x(i), xor x(i), xor out(i-1), carried on from an earlier output.

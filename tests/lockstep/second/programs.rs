@@ -52,7 +52,7 @@ impl Program {
     /// The answers that it can give.
     fn answers(self) -> &'static [u8] {
         match self {
-            Program::Cases => &[0, 1, 2, 3, 4, 6, 7, 8, 12],
+            Program::Cases => &[0, 1, 2, 3, 4, 5, 6, 7, 8, 12],
             Program::Vectors => &[0, 3, 12],
         }
     }
