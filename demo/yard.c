@@ -56,7 +56,7 @@ static const uint8_t empty_key[SHE_BLOCK] = {255, 255, 255, 255, 255, 255, 255, 
 static const uint8_t master[SHE_BLOCK] = "the master's key", new_master[SHE_BLOCK] = "one master later";
 static const uint8_t door[SHE_BLOCK] = "opens the doors.", brake[SHE_BLOCK] = "stops the wheels";
 static const uint8_t horn[SHE_BLOCK] = "for all our horn";
-static const uint8_t guest[SHE_BLOCK] = "for today only..";
+static const uint8_t guest[SHE_BLOCK] = "for today only..", boot[SHE_BLOCK] = "checks our start";
 
 enum { DOOR_SLOT = SHE_KEY_1, BRAKE_SLOT, HORN_SLOT };
 
@@ -248,6 +248,73 @@ static void power_cycle(void)
          she_generate_mac(&bus_12, BRAKE_SLOT, 8 * sizeof text, WHOLE(text), WHOLE(plain)), SHE_NO_ERROR);
 }
 
+/* What the board runs, and what somebody made of it. Firmware would lend the flash that has its program. */
+static const uint8_t program[] = "for (;;) if ( is_signed(order)) open(door);";
+static const uint8_t changed[] = "for (;;) if (!is_signed(order)) open(door);";
+
+static void boot_key_comes_in(void)
+{
+    hour("18:00", "From tonight on, a start with a changed program shall lock the door key. Two letters prepare that.");
+    step("bus 12: check your program, before there is a boot key", she_secure_boot(&bus_12, WHOLE(program)), SHE_NO_SECURE_BOOT);
+    bring("bus 12: take the boot key", SHE_BOOT_MAC_KEY, SHE_MASTER_ECU_KEY, master, 1, 0, boot);
+    bring("bus 12: take the door key anew, locked after a bad start", DOOR_SLOT, SHE_MASTER_ECU_KEY, master, 2,
+          SHE_KEY_USAGE + SHE_BOOT, door);
+}
+
+/* The loader, which runs first, has the program checked that it is about to start. The answer is 0 whatever the check finds: what
+ * that is, the status tells. */
+static void start(const char *asked, const uint8_t *code, she_length size, const char *found, uint8_t wanted)
+{
+    uint8_t status = 0;
+    step("power off and on", she_reset(&bus_12), SHE_NO_ERROR);
+    step(asked, she_secure_boot(&bus_12, code, size), SHE_NO_ERROR);
+    note(found, she_get_status(&bus_12, &status) == SHE_NO_ERROR && status == wanted);
+}
+
+static void good_start(void)
+{
+    start("check the program", WHOLE(program), "the status: checked and found good", SHE_STATUS_SECURE_BOOT + SHE_STATUS_BOOT_OK);
+}
+
+static uint8_t sign_order(uint32_t slot)
+{
+    uint8_t order[16] = "open door 2 @14", mac[16];
+    return she_generate_mac(&bus_12, slot, 8 * sizeof order, WHOLE(order), WHOLE(mac));
+}
+
+static void program_is_learnt(void)
+{
+    hour("18:30", "The first start with the boot key: the board learns its program.");
+    start("check the program", WHOLE(program), "the status: nothing to compare with, so it was learnt", SHE_STATUS_BOOT_INIT);
+    step("check it again, within the same start", she_secure_boot(&bus_12, WHOLE(program)), SHE_SEQUENCE_ERROR);
+}
+
+static void later_stage_fails(void)
+{
+    hour("19:00", "A start like any other, but the timetable is damaged.");
+    good_start();
+    step("sign with the door key", sign_order(DOOR_SLOT), SHE_NO_ERROR);
+    step("a later stage reads the timetable, and reports a failure", she_boot_failure(&bus_12), SHE_NO_ERROR);
+    step("sign with the door key", sign_order(DOOR_SLOT), SHE_KEY_NOT_AVAILABLE);
+}
+
+static void program_is_changed(void)
+{
+    hour("20:00", "Somebody has changed one byte of the program. The doors would open for every order that is not signed.");
+    start("check the changed program", WHOLE(changed), "the status: checked and found bad",
+          SHE_STATUS_SECURE_BOOT + SHE_STATUS_BOOT_FINISHED);
+    step("sign with the door key", sign_order(DOOR_SLOT), SHE_KEY_NOT_AVAILABLE);
+    step("sign with the brake key, which works after any start", sign_order(BRAKE_SLOT), SHE_NO_ERROR);
+}
+
+static void program_is_put_back(void)
+{
+    hour("20:30", "The right program is put back, and a new timetable with it.");
+    good_start();
+    step("the later stages report that all went well", she_boot_ok(&bus_12), SHE_NO_ERROR);
+    step("sign with the door key", sign_order(DOOR_SLOT), SHE_NO_ERROR);
+}
+
 int main(void)
 {
     printf("A day in the yard. Each line: what was asked, the answer's number, and what it means.\n");
@@ -259,6 +326,11 @@ int main(void)
     random_numbers();
     debugger_looks();
     power_cycle();
+    boot_key_comes_in();
+    program_is_learnt();
+    later_stage_fails();
+    program_is_changed();
+    program_is_put_back();
     printf("\nThe day is over; %d things were not as they should be.\n", surprises);
     return surprises == 0 ? 0 : 1;
 }

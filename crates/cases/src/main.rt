@@ -14,7 +14,8 @@
 //     SET field, place, value              changes a byte or a counter of the record, whose fields are counted from 0: keys,
 //                                          counters, flags, empty marks, UID, seed, random state, random key, marks
 //     RECORD from, to                      these of the record's 35 rows, the last left out
-//     RESET, DEBUGGER, INIT_RNG, GET_STATUS
+//     RESET, DEBUGGER, INIT_RNG, GET_STATUS, BOOT_FAILURE, BOOT_OK
+//     SECURE_BOOT length, a bit that is changed
 //     EXTEND_SEED length
 //     RND length
 //     LOAD_PLAIN_KEY slot, length          with the key of a slot
@@ -38,7 +39,8 @@
 //     key 4                                and so for each slot
 //     slot 4 000000010d00                  a counter of 1, flags 0d, and 00 as it is not empty
 //     UID, seed, state, random key         the last two are those of the random numbers
-//     marks 01000001000000                 initialised, not plain, no debugger, made; the last three have no meaning yet
+//     marks 0100000101010000010000         initialised, not plain, no debugger, made, booted since reset, and of the status
+//                                          SECURE_BOOT, no BOOT_INIT, no BOOT_FINISHED, BOOT_OK; the last two have no meaning yet
 use commands::Verdict;
 use device::Device;
 use device::Reply;
@@ -58,12 +60,12 @@ const UID: [u8; 16] = *b"\xa0\xa1\xa2\xa3\xa4\xa5\xa6\xa7\xa8\xa9\xaa\xab\xac\xa
 
 const OTHER_UID: [u8; 16] = *b"\x00\x00\x00\x00\x00\x00\x00\x00\x00\x00\x00\x00\x00\x00\x01+";
 
-// What is enciphered and signed, and what fills a buffer before a call, so that a write to it is seen.
+// What is enciphered, signed and booted, and what fills a buffer before a call, so that a write to it is seen.
 const TEXT: u8 = 0xa5;
 
 const FILLER: u8 = 0x5a;
 
-// A block more than the most bytes that CBC takes and a MAC covers.
+// A block more than the most bytes that CBC takes, a MAC covers and a bootloader has.
 const ROOM: usize = 65552;
 
 // A number that a line hasn't.
@@ -89,7 +91,7 @@ BUSY                \
 MEMORY_FAILURE      \
 GENERAL_ERROR       ";
 
-const COMMANDS: [u8; 440] = *b"ENC_ECB             \
+const COMMANDS: [u8; 500] = *b"ENC_ECB             \
 DEC_ECB             \
 ENC_CBC             \
 DEC_CBC             \
@@ -98,9 +100,12 @@ VERIFY_MAC          \
 RESET               \
 DEBUGGER            \
 INIT_RNG            \
+BOOT_FAILURE        \
+BOOT_OK             \
 GET_STATUS          \
 EXTEND_SEED         \
 RND                 \
+SECURE_BOOT         \
 LOAD_PLAIN_KEY      \
 GET_ID              \
 LOAD_KEY            \
@@ -130,33 +135,39 @@ const DEBUGGER: u8 = 7;
 
 const INIT_RNG: u8 = 8;
 
-const GET_STATUS: u8 = 9;
+const BOOT_FAILURE: u8 = 9;
 
-const EXTEND_SEED: u8 = 10;
+const BOOT_OK: u8 = 10;
 
-const RND: u8 = 11;
+const GET_STATUS: u8 = 11;
 
-const LOAD_PLAIN_KEY: u8 = 12;
+const EXTEND_SEED: u8 = 12;
 
-const GET_ID: u8 = 13;
+const RND: u8 = 13;
 
-const LOAD_KEY: u8 = 14;
+const SECURE_BOOT: u8 = 14;
 
-const EXPORT_RAM_KEY: u8 = 15;
+const LOAD_PLAIN_KEY: u8 = 15;
 
-const MAKE: u8 = 16;
+const GET_ID: u8 = 16;
 
-const DEVICE: u8 = 17;
+const LOAD_KEY: u8 = 17;
 
-const SET: u8 = 18;
+const EXPORT_RAM_KEY: u8 = 18;
 
-const RECORD: u8 = 19;
+const MAKE: u8 = 19;
 
-const ROLES: u8 = 20;
+const DEVICE: u8 = 20;
 
-const PAIRS: u8 = 21;
+const SET: u8 = 21;
 
-const NO_COMMAND: u8 = 22;
+const RECORD: u8 = 22;
+
+const ROLES: u8 = 23;
+
+const PAIRS: u8 = 24;
+
+const NO_COMMAND: u8 = 25;
 
 // What a line leaves to the next: the device, the last M1 to M5, and the block that a cipher or GENERATE_MAC put out last.
 struct Bench {
@@ -385,7 +396,7 @@ fn write_field(row: u8, bytes: [u8; 16]) {
         31 => write_hex(b", seed ", &bytes),
         32 => write_hex(b", state ", &bytes),
         33 => write_hex(b", random key ", &bytes),
-        34 => write_hex(b", marks ", text::front(&bytes, 7)),
+        34 => write_hex(b", marks ", text::front(&bytes, 11)),
         _ => write_slot_field(row, bytes),
     }
 }
@@ -627,6 +638,16 @@ fn roles(device: Device, to: u8) {
         roles_of(device, slot);
         slot += 1;
     }
+}
+
+// ---- the boot check
+
+fn secure_boot(bench: Bench, size: u64, bit: u64) -> Bench {
+    let bootloader = text_with(bit);
+    finish_change(
+        bench,
+        commands::secure_boot(bench.device, text::front(&bootloader, size)),
+    )
 }
 
 // ---- key messages
@@ -906,7 +927,7 @@ fn with_byte_field(device: Device, field: u64, at: usize, value: u8) -> Device {
         5 => after.seed[at % 16] = value,
         6 => after.state[at % 16] = value,
         7 => after.rngkey[at % 16] = value,
-        _ => after.marks[at % 7] = value,
+        _ => after.marks[at % 11] = value,
     }
     after
 }
@@ -946,7 +967,9 @@ fn run_change(bench: Bench, command: u8) -> Bench {
     match command {
         RESET => finish_change(bench, commands::reset(bench.device)),
         DEBUGGER => finish_change(bench, commands::attach_debugger(bench.device)),
-        _ => finish_change(bench, commands::init_rng(bench.device)),
+        INIT_RNG => finish_change(bench, commands::init_rng(bench.device)),
+        BOOT_FAILURE => finish_change(bench, commands::boot_failure(bench.device)),
+        _ => finish_change(bench, commands::boot_ok(bench.device)),
     }
 }
 
@@ -954,10 +977,11 @@ fn run_command(bench: Bench, command: u8, n: [u64; 12]) -> Bench {
     match command {
         ENC_ECB..=GENERATE_MAC => use_slot(bench, command, n),
         VERIFY_MAC => verify_mac(bench, n),
-        RESET..=INIT_RNG => run_change(bench, command),
+        RESET..=BOOT_OK => run_change(bench, command),
         GET_STATUS => get_status(bench),
         EXTEND_SEED => extend_seed(bench, n[0]),
         RND => rnd(bench, n[0]),
+        SECURE_BOOT => secure_boot(bench, n[0], n[1]),
         LOAD_PLAIN_KEY => load_plain_key(bench, n[0], n[1]),
         GET_ID => get_id(bench, n[0], n[1]),
         LOAD_KEY => load_key(bench, n),
