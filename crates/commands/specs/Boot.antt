@@ -45,7 +45,7 @@ learnt mac d =
     putSlot bootMac (record { key = mac; counter = 0; flags = 0; empty = off })
     (setMark bootInitMark on (setMark bootedMark on d))
 
--- SECURE_BOOT is set, and BOOT_OK where the MAC is that of slot 3, BOOT_FINISHED where not
+-- SECURE_BOOT is set, and BOOT_OK where the MAC is that of slot 3, BOOT_FINISHED where not; each of these two is off otherwise
 unfoldable pub checked : Bool → Device → Device
 checked agrees d =
     setMark bootFinishedMark (boolByte (not agrees)) (setMark bootOkMark (boolByte agrees)

@@ -42,7 +42,7 @@ pub record InStep (d : Device) : Type 0 where
       × (isMarked d bootFinishedMark ≡ false) × (isMarked d bootOkMark ≡ false)
   pub unfinished : isMarked d secureBootMark ≡ true → isMarked d bootFinishedMark ≡ false → isMarked d bootOkMark ≡ true
 
--- a call is refused because a slot is locked, with 2 at its place in the order: by the checks before that one, where they find fault
+-- one of a call's checks has found a slot locked: then the call is refused, by a check before that one, or else with 2
 pub record Shut (call : Account) (d : Device) (answer : ℕ) : Type 0 where
   pub before : List (Bool × ℕ)
   pub since : List (Bool × ℕ)
