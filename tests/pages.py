@@ -216,7 +216,7 @@ def hold_calls(routines):
         declared[name] = " ".join(re.findall(r"\(([^:]*) :", given)).split()
     rows = re.findall(r"^account n \(?([\w-]+)([^)=]*)\)? = (\w+\.)?(\w+)(.*)$", text, re.M)
     check([row[0] for row in rows] == list(declared), "the table of accounts has other calls than the type, or another order")
-    named = {"commands": set(), "load": set(), "she": set()}
+    named = {"commands": set(), "load": set(), "boot": set(), "she": set()}
     for call, pattern, short, definition, given in rows:
         counted = given.split()[:1] == ["n"]
         check(pattern.split() == declared[call] == given.split()[counted:], f"the account of {call} has its arguments in another order")

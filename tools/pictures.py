@@ -98,7 +98,7 @@ LIBRARY = {
     "laws": ("no code", ""), "field": ("GF(2^8), S-box", "FIPS 197, 4"), "aes": ("AES-128", "FIPS 197, 5"),
     "basics": ("answers, texts", ""), "modes": ("CBC, CMAC, KDF", "SP 800-38A, B"), "message": ("slots, M1 to M5", "001, 4.9"),
     "device": ("record and rules", ""), "load": ("LOAD_KEY, export", ""), "commands": ("all others", ""),
-    "she": ("what C calls", "include/she.h")}
+    "boot": ("the boot check", ""), "she": ("what C calls", "include/she.h")}
 BESIDE = {"demands": "theorems", "published": "theorems", "text": "programs", "vectors": "programs", "cases": "programs",
           "bench": "programs"}
 # The stations of a load, a row a crate: the step of docs/ARCHITECTURE.md that begins there, `functions` of it, other words.
@@ -140,14 +140,17 @@ def layers():
     left, right, chip, small, middle = 16, 736, 108, 96, [196 + 124 * i for i in range(4)]
     top, tall, y = {}, {}, 52
     for row in [["C"]] + rows[::-1]:
-        for i, name in enumerate(row):   # the first is wide and has the stations; any other is a small box at the right end
-            top[name], tall[name] = y, 52 if row[0] in STATIONS else 34
-            x, end = (left, right - small * (len(row) - 1)) if i == 0 else (right - small * (len(row) - i) + 8, right)
+        high = 52 if row[0] in STATIONS else 34
+        for i, name in enumerate(row):   # the first is wide and has the stations; the others stand at the right end, on one another
+            part = (high + 4) / (len(row) - 1) if i else high + 4
+            top[name], tall[name] = y + part * max(0, i - 1), part - 4
+            x, end = (right - small + 8, right) if i else (left, right - small * (len(row) > 1))
             what, paper = LIBRARY.get(name, ("over she.h", ""))
             aside, down = (10, 40) if tall[name] > 40 else (76, 22)
-            p.box(x, y, end - x, tall[name], "open" if name == "C" else "band")
-            p.text(x + 10, y + 22, "C programs" if name == "C" else name, "bold" if name == "C" else "name", room=end - x - 12)
-            p.text(x + aside, y + down, what, "small muted", room=min(116, end - x - 12))
+            p.box(x, top[name], end - x, tall[name], "open" if name == "C" else "band")
+            p.text(x + 10, top[name] + min(22, tall[name] / 2 + 5), "C programs" if name == "C" else name,
+                   "bold" if name == "C" else "name", room=end - x - 12)
+            p.text(x + aside, y + down, what if tall[name] > 30 else "", "small muted", room=min(116, end - x - 12))
             p.text(end - 8, y + tall[name] / 2 + 4.5, paper if len(row) == 1 else "", "small muted", "end", small)
         y += tall[row[0]] + 6
 
@@ -197,8 +200,8 @@ def layers():
                 p.path([(x, top["load"] - 6), (at[used], top["load"] - 6)])
             elif used in LIBRARY:   # what is in neither is the kit's own
                 row = rows[level(used)]
-                wide = cell / len(row)
-                p.box(x - cell / 2 + wide * row.index(used), top[used] + 6, wide, tall[used] - 12, "fill", 2)
+                wide, inset = cell / min(2, len(row)), min(6, tall[used] / 8)
+                p.box(x - cell / 2 + wide * min(1, row.index(used)), top[used] + inset, wide, tall[used] - 2 * inset, "fill", 2)
     p.legend(y + 16, ("way", "the way of a load, its steps numbered as in docs/ARCHITECTURE.md"), ("dash", "a refusal"),
              ("fill", "uses the crate of this row"))
     p.text(16, y + 44, "A crate uses only what stands below it, and only through promises and named laws.", "small muted")

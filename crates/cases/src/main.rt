@@ -646,7 +646,7 @@ fn secure_boot(bench: Bench, size: u64, bit: u64) -> Bench {
     let bootloader = text_with(bit);
     finish_change(
         bench,
-        commands::secure_boot(bench.device, text::front(&bootloader, size)),
+        boot::secure_boot(bench.device, text::front(&bootloader, size)),
     )
 }
 
@@ -968,8 +968,8 @@ fn run_change(bench: Bench, command: u8) -> Bench {
         RESET => finish_change(bench, commands::reset(bench.device)),
         DEBUGGER => finish_change(bench, commands::attach_debugger(bench.device)),
         INIT_RNG => finish_change(bench, commands::init_rng(bench.device)),
-        BOOT_FAILURE => finish_change(bench, commands::boot_failure(bench.device)),
-        _ => finish_change(bench, commands::boot_ok(bench.device)),
+        BOOT_FAILURE => finish_change(bench, boot::boot_failure(bench.device)),
+        _ => finish_change(bench, boot::boot_ok(bench.device)),
     }
 }
 

@@ -1,5 +1,4 @@
 pub mod Agreement
-pub mod Booting
 pub mod Effects
 pub mod Making
 pub mod Passed

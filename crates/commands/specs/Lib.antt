@@ -1,3 +1,2 @@
-pub mod Boot
 pub mod Checks
 pub mod Commands

@@ -29,9 +29,9 @@ use Rattle.device.specs.declared.Slot.{Slot}
 use Rattle.device.proofs.Account.{made-and-long, then-own}
 use Rattle.device.proofs.Made.{facts}
 use Rattle.device.proofs.Marks.{that-mark, mark-shape}
-use Rattle.commands.specs.Boot.{measured, measure, bootLengths, bootChecks, learnt, checked, booted, secureBoot, stageChecks, bootFailure}
+use Rattle.boot.specs.Boot.{measured, measure, bootLengths, bootChecks, learnt, checked, booted, secureBoot, stageChecks, bootFailure}
 use Rattle.commands.specs.Commands as commands
-use Rattle.commands.proofs.Booting.{measure-block, checked-finished, checked-ok, checked-secure, learnt-elsewhere, booted-empty, booted-full, booted-effect, booted-ran}
+use Rattle.boot.proofs.Effects.{measure-block, checked-finished, checked-ok, checked-secure, learnt-elsewhere, booted-empty, booted-full, booted-effect, booted-ran}
 use Rattle.commands.proofs.Effects.{reset-effect, reset-sound}
 use Rattle.demands.specs.BootCheck.{NoReset, Checked, Failed, InStep, Shut, BootCheck, BootFollows}
 use Rattle.demands.specs.Calls.{Call, reset, secure-boot, boot-failure, account, step}

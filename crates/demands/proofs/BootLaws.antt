@@ -23,9 +23,9 @@ use Rattle.device.specs.declared.Device.{Device}
 use Rattle.device.specs.declared.Slot.{Slot}
 use Rattle.device.proofs.Account.{made-and-long}
 use Rattle.device.proofs.Marks.{that-mark, other-mark, mark-shape}
-use Rattle.commands.specs.Boot.{measure, bootLengths, bootChecks, learnt, checked, booted, secureBoot, stageChecks, bootFailure, bootOk}
+use Rattle.boot.specs.Boot.{measure, bootLengths, bootChecks, learnt, checked, booted, secureBoot, stageChecks, bootFailure, bootOk}
 use Rattle.commands.specs.Commands as commands
-use Rattle.commands.proofs.Booting.{measure-block, checked-finished, checked-ok, checked-booted, learnt-booted, learnt-secure}
+use Rattle.boot.proofs.Effects.{measure-block, checked-finished, checked-ok, checked-booted, learnt-booted, learnt-secure}
 use Rattle.load.specs.Export.{exportRamKey}
 use Rattle.load.specs.Load.{loadKey}
 use Rattle.load.specs.Rules.{plainAfter, loaded}

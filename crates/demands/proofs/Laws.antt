@@ -23,10 +23,10 @@ use Rattle.device.specs.Record.{masterEcuKey, bootMacKey, bootMac, ramKey, boot
 use Rattle.device.specs.Rules.{hasFlag, locked}
 use Rattle.device.specs.declared.Device.{Device}
 use Rattle.device.proofs.Effects.{Effective, does-nothing}
-use Rattle.commands.specs.Boot.{bootChecks, secureBoot, bootFailure, bootOk}
+use Rattle.boot.specs.Boot.{bootChecks, secureBoot, bootFailure, bootOk}
 use Rattle.commands.specs.Checks.{slotChecks}
 use Rattle.commands.specs.Commands as commands
-use Rattle.commands.proofs.Booting.{boot-ok-effect, boot-failure-effect, secure-boot-effect}
+use Rattle.boot.proofs.Effects.{boot-ok-effect, boot-failure-effect, secure-boot-effect}
 use Rattle.commands.proofs.Effects.{attach-debugger-effect, init-rng-effect, extend-seed-effect, rnd-effect, reset-effect, load-plain-key-effect}
 use Rattle.load.specs.Export.{exportRamKey}
 use Rattle.load.specs.Load.{pairChecks, loadKey}

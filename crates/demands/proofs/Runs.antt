@@ -20,8 +20,8 @@ use Rattle.device.specs.declared.Device.{Device}
 use Rattle.device.specs.declared.Slot.{Slot}
 use Rattle.device.proofs.Effects.{Effect}
 use Rattle.device.proofs.Made.{facts, secret-present}
-use Rattle.commands.specs.Boot.{measure, booted, secureBoot}
-use Rattle.commands.proofs.Booting.{measure-block, learnt-there, booted-empty}
+use Rattle.boot.specs.Boot.{measure, booted, secureBoot}
+use Rattle.boot.proofs.Effects.{measure-block, learnt-there, booted-empty}
 use Rattle.demands.specs.Calls.{Call, secure-boot, account, step}
 use Rattle.demands.specs.Demand3.{Learns, Runs, Demand3}
 use Rattle.demands.specs.Runs.{run, after, isLoadOf, loadsOf, isFillOf, fillsOf, InBytes}

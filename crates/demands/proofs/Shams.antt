@@ -34,8 +34,8 @@ use Rattle.device.specs.Rules.{kept, locked, usageFits}
 use Rattle.device.specs.Outcome.{Outcome}
 use Rattle.device.specs.Record.{masterEcuKey, bootMac, ramKey, bootOkMark, isMarked, keyAt, flagsAt, emptyAt, putSlot}
 use Rattle.device.specs.declared.Device.{Device}
-use Rattle.commands.specs.Boot.{measured, measure, checked, secureBoot}
-use Rattle.commands.proofs.Booting.{checked-ok}
+use Rattle.boot.specs.Boot.{measured, measure, checked, secureBoot}
+use Rattle.boot.proofs.Effects.{checked-ok}
 use Rattle.commands.specs.Commands.{encEcb, verifyMac, loadPlainKey}
 use Rattle.load.specs.Rules.{authorityKey, counterRises, loaded}
 use Rattle.message.specs.Flags.{flagCount}

@@ -13,7 +13,7 @@ use Rattle.device.specs.Made.{fresh, Sound}
 use Rattle.device.specs.Record.{bootMacKey, bootMac, on, bootedMark, secureBootMark, bootInitMark, bootFinishedMark, bootOkMark, isMarked, isEmpty, keyAt, flagsAt, setMark}
 use Rattle.device.specs.Rules.{hasFlag}
 use Rattle.device.specs.declared.Device.{Device}
-use Rattle.commands.specs.Boot.{measure, bootLengths, checked}
+use Rattle.boot.specs.Boot.{measure, bootLengths, checked}
 use Rattle.demands.specs.Calls.{Call, reset, secure-boot, boot-failure, account, Machine}
 use Rattle.demands.specs.Demand1.{Demand1}
 use Rattle.demands.specs.Demand2.{Demand2}

@@ -5,7 +5,7 @@ use Prim.Native.Nat.{ℕ}
 use Rattle.device.specs.Account.{Account, perform}
 use Rattle.device.specs.Outcome.{Outcome}
 use Rattle.device.specs.declared.Device.{Device}
-use Rattle.commands.specs.Boot.{secureBoot, bootFailure, bootOk}
+use Rattle.boot.specs.Boot.{secureBoot, bootFailure, bootOk}
 use Rattle.commands.specs.Commands as commands
 use Rattle.load.specs.Export.{exportRamKey}
 use Rattle.load.specs.Load.{loadKey}

@@ -21,7 +21,7 @@ use Rattle.device.specs.Record.{secretKey, bootMac, off, plainMark, markAt, isE
 use Rattle.device.specs.Rules.{hasFlag, locked}
 use Rattle.device.specs.declared.Device.{Device}
 use Rattle.device.specs.declared.Slot.{Slot}
-use Rattle.commands.specs.Boot.{measure}
+use Rattle.boot.specs.Boot.{measure}
 use Rattle.load.specs.Load.{fiveLengths, keyLoaded}
 use Rattle.load.specs.Rules.{authorityKey, isForUs, counterRises, plainAfter, asKept}
 use Rattle.demands.specs.Calls.{Call, Machine, load-key, secure-boot}

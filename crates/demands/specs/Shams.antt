@@ -14,7 +14,7 @@ use Rattle.device.specs.Made.{made}
 use Rattle.device.specs.Record.{masterEcuKey, bootMac, debuggerMark, bootOkMark, isMarked, isEmpty, keyAt, flagsAt}
 use Rattle.device.specs.Rules.{usageFits}
 use Rattle.device.specs.declared.Device.{Device}
-use Rattle.commands.specs.Boot.{measure}
+use Rattle.boot.specs.Boot.{measure}
 use Rattle.demands.specs.Calls.{enc-ecb, verify-mac, load-key, load-plain-key, secure-boot, Machine}
 use Rattle.demands.specs.Demand2.{output, yes-verdict}
 

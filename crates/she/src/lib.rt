@@ -10,7 +10,7 @@ ghost use Rattle.message.specs.Flags.{flagCount};
 ghost use Rattle.message.specs.Writer.{messages, fullForm, shortForm, fleetSheet, proof, proofForm};
 ghost use Rattle.device.specs.Account.{perform};
 ghost use Rattle.device.specs.Outcome.{outcome};
-ghost use Rattle.commands.specs.Boot.{secureBoot, bootFailure, bootOk};
+ghost use Rattle.boot.specs.Boot.{secureBoot, bootFailure, bootOk};
 ghost use Rattle.commands.specs.Commands.{reset, attachDebugger, encEcb, decEcb, encCbc, decCbc, generateMac, verifyMac, loadPlainKey, initRng, extendSeed, rnd, getStatus, getId};
 ghost use Rattle.load.specs.Load.{loadKey};
 ghost use Rattle.load.specs.Export.{exportRamKey};
@@ -490,7 +490,7 @@ pub extern "C" fn she_secure_boot(device: &mut Device, bootloader: &[u8]) -> u8
     ensures { λ r. ⌜ outcome r (now (device .exit)) 0 [] ≡ perform (secureBoot (now (bootloader .entry))) (now (device .entry)) ⌝ }
 {
     let before = *device;
-    let reply = commands::secure_boot(before, bootloader);
+    let reply = boot::secure_boot(before, bootloader);
     *device = reply.device;
     reply.answer
 }
@@ -500,7 +500,7 @@ pub extern "C" fn she_boot_failure(device: &mut Device) -> u8
     ensures { λ r. ⌜ outcome r (now (device .exit)) 0 [] ≡ perform bootFailure (now (device .entry)) ⌝ }
 {
     let before = *device;
-    let reply = commands::boot_failure(before);
+    let reply = boot::boot_failure(before);
     *device = reply.device;
     reply.answer
 }
@@ -510,7 +510,7 @@ pub extern "C" fn she_boot_ok(device: &mut Device) -> u8
     ensures { λ r. ⌜ outcome r (now (device .exit)) 0 [] ≡ perform bootOk (now (device .entry)) ⌝ }
 {
     let before = *device;
-    let reply = commands::boot_ok(before);
+    let reply = boot::boot_ok(before);
     *device = reply.device;
     reply.answer
 }

@@ -5,7 +5,7 @@ use mathlib.Core.Path.{_≡_, refl, ap}
 use Prim.Native.Nat.{ℕ, _<_, _^_}
 use mathlib.Core.List.{[], _∷_, List}
 use Rattle.she.proofs.InPlace.{URA, fullShare, named, w8, Val, vint, vptr, SProp, ent, sep, emp, via, fst∗, id⊢, GName, Lft, Share, Fml, ftrue, fat, flft, fobs, fbor, Memory, Routine, Heap, Calls, Loops, WpFn, Tables, Atoms, sem, Fun, fact, givenOf, tables, tablesOf, Given, ‵, raw, some, later, _⊛_, ⋆, _$_, _∵_, !, qed, by, move, keep, drop, use1, use2, split, join, pick, rewrite, fsplit, fsplit3, fjoin, fjoin3, feqI, suffices, frame, await, done, look, look-raw, init, store-raw, forget, stop, hop, fld, from, load, of-opd, and-then, no-more, assigns, land, returns, enter, alloc1, alloc0, params1, pass1, pass0, free1, free0, whole, sub, look-in, Body, FmC, fmOf, WpFn-mono, owns, Is, shows, mem, uint-makes, u8, RefT, MutRef, ptr-vals, mut-tells, plain, only, opens, closes, owned, peeks, heard, nothing, spelt, onEntry, Meets, tripleOf, Contract, Triple, calls-at, Lasts, ensured, lasts, entered, cited, says, Stays, stay-ref, walkOf, AllGo, goes-ref, Walks, ends-at, walked, walk-meets, vals, answer-fits, device-is}
-use Rattle.commands.specs.Boot.{bootOk}
+use Rattle.boot.specs.Boot.{bootOk}
 use Rattle.device.specs.Account.{perform}
 use Rattle.device.specs.Outcome.{outcome}
 use Rattle.device.specs.declared.Device.{Device}
@@ -15,10 +15,10 @@ use Rattle.device.specs.declared.Reply.{Reply}
 use Rattle.device.proofs.Reply as O
 use Rattle.device.proofs.Reply.Laws as O′
 use denote.Struct.Laws as LL
-use Rattle.commands.proofs.boot_ok as g
-use Rattle.commands.proofs.boot_ok.Symbol as g-def
-use Rattle.commands.proofs.boot_ok.Symbol.{name as #g}
-use Rattle.commands.proofs.boot_ok.Met as g-thm
+use Rattle.boot.proofs.boot_ok as g
+use Rattle.boot.proofs.boot_ok.Symbol as g-def
+use Rattle.boot.proofs.boot_ok.Symbol.{name as #g}
+use Rattle.boot.proofs.boot_ok.Met as g-thm
 use Rattle.she.proofs.she_boot_ok as f
 use Rattle.she.proofs.she_boot_ok.Key.{name as #f}
 use Rattle.she.proofs.she_boot_ok.Statement as stated
@@ -163,4 +163,4 @@ she-boot-ok-spec 𝓤 H 𝓜 𝓖 𝓡 =
     entered 𝓤 H (tripleOf 𝓤 H (𝓖 .A) f.signature (f.spec 𝓤 H (𝓖 .A) (𝓜 .mem) (𝓡 .run)))
     (tables 𝓤 H 𝓜 𝓡 code.env .C) (tables 𝓤 H 𝓜 𝓡 code.env .Λ) #f code.function (code.unfolded 𝓤 H 𝓜 𝓡)
     (meets 𝓤 H (𝓖 .A) (givenOf 𝓤 H 𝓜 𝓖) (𝓜 .mem) (𝓡 .run) (tablesOf 𝓤 H 𝓜 (tables 𝓤 H 𝓜 𝓡 code.env))
-    (cited 𝓤 H (Core 𝓤 H (𝓖 .A) (𝓜 .mem) (𝓡 .run)) 𝓜 𝓡 code.env #g g-def.routine code.calls-commands·boot-ok (g-thm.met 𝓤 H 𝓜 𝓖 𝓡)))
+    (cited 𝓤 H (Core 𝓤 H (𝓖 .A) (𝓜 .mem) (𝓡 .run)) 𝓜 𝓡 code.env #g g-def.routine code.calls-boot·boot-ok (g-thm.met 𝓤 H 𝓜 𝓖 𝓡)))
