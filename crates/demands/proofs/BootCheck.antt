@@ -6,7 +6,7 @@ use mathlib.Core.Bool.{Bool, true, false, not, cond, _&&_, _||_, or-true}
 use mathlib.Core.List.{List, [], _∷_, _++_, append-assoc}
 use Prim.Native.Nat.{ℕ, suc, _≤_, _<_}
 use native.Mathlib.Omega.{arith}
-use borrow.Author.Tests.{eqb-false, leb-true, ltb-true, not-false}
+use borrow.Author.Tests.{eqb-false, leb-true, ltb-true}
 use lib.Dec.{ltb}
 use lib.ListN.{length, set}
 use lib.Seq.{set-getD, getD-set-other}
@@ -29,14 +29,14 @@ use Rattle.device.specs.declared.Slot.{Slot}
 use Rattle.device.proofs.Account.{made-and-long, then-own}
 use Rattle.device.proofs.Made.{facts}
 use Rattle.device.proofs.Marks.{that-mark, mark-shape}
-use Rattle.boot.specs.Boot.{measured, measure, bootLengths, bootChecks, learnt, checked, booted, secureBoot, stageChecks, bootFailure}
+use Rattle.boot.specs.Boot.{measured, measure, bootLengths, bootChecks, learnt, checked, booted, secureBoot, bootFailure}
 use Rattle.commands.specs.Commands as commands
 use Rattle.boot.proofs.Effects.{measure-block, checked-finished, checked-ok, checked-secure, learnt-elsewhere, booted-empty, booted-full, booted-effect, booted-ran}
 use Rattle.commands.proofs.Effects.{reset-effect, reset-sound}
 use Rattle.demands.specs.BootCheck.{NoReset, Checked, Failed, InStep, Shut, BootCheck, BootFollows}
 use Rattle.demands.specs.Calls.{Call, reset, secure-boot, boot-failure, account, step}
 use Rattle.demands.specs.Runs.{run, after, loadsOf, InBytes}
-use Rattle.demands.proofs.BootLaws.{Holds, alike, put-marks, failure-holds, fresh-in-step, boot-law}
+use Rattle.demands.proofs.BootLaws.{Holds, alike, put-marks, failure-holds, stage-is-set, fresh-in-step, boot-law}
 use Rattle.demands.proofs.Laws.{otherThan0, LockStands, law}
 use Rattle.demands.proofs.Runs.{runs, step-sound, boots-so, learns-so, full-stays}
 use Rattle.demands.proofs.Settled.{only-ours}
@@ -196,14 +196,12 @@ module _ (n : ℕ) (few : n ≤ 100) where
       fails-later none done =
           let found = sym (answer-found n f boot-failure) ∙ done in
           let ran = stays-ran e calls e-sound bytes none e-ran in
-          let was = made-and-long f true (stageChecks f) found .2 in
-          let is-set = not-false (isMarked f secureBootMark) (no-fault (not (isMarked f secureBootMark)) noSecureBoot _ (λ z. omega (arith, z)) was .0) in
           let held = failure-holds f f-sound in
           let is = ap (λ (o : Outcome). o .device) (step-done n f boot-failure found) in
           let once : Device = setMark bootFinishedMark on f in
           record {
             ran = ap (λ (x : Device). isMarked x bootedMark) is ∙ held .still-ran ran;
-            is-set = ap (λ (x : Device). isMarked x secureBootMark) is ∙ held .still-set is-set;
+            is-set = ap (λ (x : Device). isMarked x secureBootMark) is ∙ held .still-set (stage-is-set f found);
             not-ok = ap (λ (x : Device). isMarked x bootOkMark) is
                 ∙ that-mark bootOkMark off once (mark-shape bootFinishedMark on f (f-sound .0)) (omega arith);
           }

@@ -146,7 +146,7 @@ finished-in-step d e is-set same done step = record {
   unfinished = λ now still. absurd (true≢false (sym done ∙ still));
 }
 
-stage-is-set : (d : Device) → answerBy d true (stageChecks d) ≡ 0 → isMarked d secureBootMark ≡ true
+pub stage-is-set : (d : Device) → answerBy d true (stageChecks d) ≡ 0 → isMarked d secureBootMark ≡ true
 stage-is-set d zero =
     not-false (isMarked d secureBootMark)
     (no-fault (not (isMarked d secureBootMark)) noSecureBoot _ (λ z. omega (arith, z)) (made-and-long d true (stageChecks d) zero .2) .0)

@@ -8,8 +8,10 @@ use mathlib.Core.List.{List, [], _∷_, _++_}
 use mathlib.Core.Logic.{inl, inr, ⊎-elim}
 use Prim.Native.Nat.{ℕ, _≤_, _<_}
 use native.Mathlib.Omega.{arith}
-use lib.Dec.{eqb, ltb}
+use borrow.Author.Tests.{leb-true}
+use lib.Dec.{eqb, leb, ltb}
 use Rattle.laws.specs.Among.{Among}
+use Rattle.laws.proofs.Test.{both}
 use Rattle.basics.specs.Answers.{sequenceError, keyNotAvailable, keyInvalid, keyEmpty, noSecureBoot, keyWriteProtected, firstFault}
 use Rattle.basics.proofs.Faults.{allAmong}
 use Rattle.message.specs.Building.{targetOf, authorityOf}
@@ -142,21 +144,26 @@ module _ (n : ℕ) where
     effect = λ few. load-key-effect n few m1 m2 m3 b4 b5;
   }
 
-  -- ---- GET_ID uses slot 1, and SECURE_BOOT slots 2 and 3, whatever is asked
+  -- ---- GET_ID uses slot 1, and SECURE_BOOT slots 2 and 3, whatever is asked: these are slots
+  abbrev areSlots : List ℕ → Bool
+  areSlots [] = true
+  areSlots (x ∷ xs) = leb x ramKey && areSlots xs
+
+  not-beyond : (slots : List ℕ) → areSlots slots ≡ true → (s : ℕ) → Among s slots → ramKey < s → ⊥
+  not-beyond [] h s named high = named
+  not-beyond (x ∷ xs) h s (inl e) high = omega (arith, e, high, leb-true x ramKey (both (leb x ramKey) (areSlots xs) h .0))
+  not-beyond (x ∷ xs) h s (inr more) high = not-beyond xs (both (leb x ramKey) (areSlots xs) h .1) s more high
+
   id-lock : (d : Device) (s : ℕ) → Among s (masterEcuKey ∷ []) → locked d s ≡ true → LockStands ((locked d masterEcuKey, keyNotAvailable) ∷ [])
   id-lock d s (inl e) shut = lock-between [] [] (locked d masterEcuKey) (ap (locked d) (sym e) ∙ shut) refl
   id-lock d s (inr none) shut = absurd none
-
-  id-slot : (s : ℕ) → Among s (masterEcuKey ∷ []) → ramKey < s → ⊥
-  id-slot s (inl e) high = omega (arith, e, high)
-  id-slot s (inr none) high = none
 
   of-id : (challenge output : List ℕ) → Law n (commands.getId challenge output)
   unfolding commands.getId
   of-id challenge output = record {
     numbers = λ d. refl;
     unchanged = λ answer d. refl;
-    no-such-slot = λ d s named high. absurd (id-slot s named high);
+    no-such-slot = λ d s named high. absurd (not-beyond (masterEcuKey ∷ []) refl s named high);
     lock-stands = id-lock;
     effect = λ few d sound bytes none. does-nothing d sound;
   }
@@ -169,17 +176,12 @@ module _ (n : ℕ) where
       one-of (inr (inl e)) = ap (λ (b : Bool). locked d bootMacKey || b) (ap (locked d) (sym e) ∙ shut) ∙ or-true (locked d bootMacKey)
       one-of (inr (inr none)) = absurd none
 
-  boot-slots : (s : ℕ) → Among s (bootMacKey ∷ bootMac ∷ []) → ramKey < s → ⊥
-  boot-slots s (inl e) high = omega (arith, e, high)
-  boot-slots s (inr (inl e)) high = omega (arith, e, high)
-  boot-slots s (inr (inr none)) high = none
-
   of-boot : (bootloader : List ℕ) → Law n (secureBoot bootloader)
   unfolding secureBoot
   of-boot bootloader = record {
     numbers = λ d. refl;
     unchanged = λ answer d. refl;
-    no-such-slot = λ d s named high. absurd (boot-slots s named high);
+    no-such-slot = λ d s named high. absurd (not-beyond (bootMacKey ∷ bootMac ∷ []) refl s named high);
     lock-stands = boot-lock;
     effect = λ few. secure-boot-effect bootloader;
   }

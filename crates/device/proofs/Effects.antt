@@ -1,5 +1,5 @@
 -- What a success of a call does to a made device: each call has one law that says it. It stays made, keeps its UID, and its
--- slots that are not volatile are as they were or loaded with a greater counter.
+-- slots that are not volatile are as they were, or loaded with a greater counter, or filled where they were empty.
 -- Assumes nothing.
 use mathlib.Core.Path.{_≡_, refl, ap}
 use mathlib.Core.Bool.{true, false}

@@ -1,6 +1,6 @@
 -- `boot::secure_boot` meets its contract.
 -- Assumes nothing.
-use mathlib.Core.Bool.{Bool, cond}
+use mathlib.Core.Bool.{Bool}
 use mathlib.Core.List.{List, [], _++_}
 use mathlib.Core.Path.{_≡_, sym, ap, ap₂, _∙_}
 use Prim.Native.Nat.{ℕ, _≤_}
@@ -14,10 +14,10 @@ use Rattle.aes.specs.Cipher.{cipher}
 use Rattle.modes.specs.Cmac.{textMac}
 use Rattle.device.specs.Account.{answerBy}
 use Rattle.device.specs.Outcome.{outcome}
-use Rattle.device.specs.Record.{bootMac, keyAt}
 use Rattle.device.specs.declared.Device.{Device}
 use Rattle.device.proofs.Account.{is-refused, is-done, made-and-long}
 use Rattle.boot.specs.Boot.{measure, bootLengths, bootChecks, learnt, checked, secureBoot}
+use Rattle.boot.proofs.Effects.{booted-empty, booted-full}
 use Rattle.boot.proofs.secure_boot.Statement.{statement}
 use Rattle.boot.proofs.secure_boot.Tie as tie
 
@@ -78,8 +78,7 @@ returns-2 c = let e = c .before .before in
     let d = a .device in
     let mine = measure d (a .bootloader .now) in
     let empty = sym (e .is-empty .ensures) ∙ c .before .if2 .taken in
-    let way : Bool → Device = λ b. cond b (learnt mine d) (checked (same mine (keyAt d bootMac)) d) in
-    ap (λ (x : Device). outcome 0 x 0 []) (c .learn .ensures ∙ ap (λ (k : List ℕ). learnt k d) (mac m) ∙ sym (ap way empty))
+    ap (λ (x : Device). outcome 0 x 0 []) (c .learn .ensures ∙ ap (λ (k : List ℕ). learnt k d) (mac m) ∙ sym (booted-empty mine d empty))
     ∙ is-done _ _ _ (found (o .before)) (o .if1 .left)
 
 slice-aggregate-is-same : tie.Need-slice-aggregate-is-same
@@ -109,9 +108,8 @@ returns-3 c = let s = c .before in
     let d = a .device in
     let mine = measure d (a .bootloader .now) in
     let full = sym (e .is-empty .ensures) ∙ l .if2 .left in
-    let way : Bool → Device = λ b. cond b (learnt mine d) (checked (same mine (keyAt d bootMac)) d) in
     let agrees = s .is-same .ensures ∙ ap₂ same (mac m) (k .key-at2 .ensures) in
-    ap (λ (x : Device). outcome 0 x 0 []) (c .check .ensures ∙ ap (λ (b : Bool). checked b d) agrees ∙ sym (ap way full))
+    ap (λ (x : Device). outcome 0 x 0 []) (c .check .ensures ∙ ap (λ (b : Bool). checked b d) agrees ∙ sym (booted-full mine d full))
     ∙ is-done _ _ _ (found (o .before)) (o .if1 .left)
 
 pub secure-boot-spec : {M : Type 1} → statement M
