@@ -1,8 +1,10 @@
-// What every layer above the engine shares: the numbers of the answers, and texts read and compared whatever their lengths are.
+// What every layer above the engine shares: the numbers of the answers, marks, numbers that come in wide, and texts read and compared
+// whatever their lengths are.
 ghost use mathlib.Core.Path.{_≡_};
 ghost use Rattle.laws.specs.Same.{same};
 ghost use Rattle.aes.specs.State.{byte, Bytes};
-ghost use Rattle.basics.specs.Bytes.{blockAt, uidFrom};
+ghost use Rattle.basics.specs.Bytes.{blockAt, putBlock, uidFrom};
+ghost use Rattle.basics.specs.Wide.{saturated};
 
 // ---- numbers of the answers
 
@@ -25,6 +27,22 @@ pub const KEY_UPDATE_ERROR: u8 = 7;
 pub const RNG_SEED: u8 = 8;
 
 pub const GENERAL_ERROR: u8 = 12;
+
+// ---- marks
+
+// Bytes; a record with any other byte in the place of one is not believed.
+pub const OFF: u8 = 0;
+
+pub const ON: u8 = 1;
+
+// ---- wide numbers
+
+// A slot, flags or the length of a MAC as a byte: what is too wide is the largest byte, and never its last digits.
+pub fn to_byte(number: u32) -> u8
+    ensures { λ r. ⌜ r ≡ saturated 255 number ⌝ }
+{
+    if number > 255 { 255 } else { number as u8 }
+}
 
 // ---- texts
 
@@ -49,6 +67,23 @@ pub fn block_at(text: &[u8], number: u8) -> [u8; 16]
         i += 1;
     }
     block
+}
+
+// Fifteen keys, one of them put anew.
+pub fn put_block(keys: [u8; 240], number: u8, block: [u8; 16]) -> [u8; 240]
+    ensures { λ r. ⌜ r ≡ putBlock keys number block ⌝ }
+{
+    if number >= 15 {
+        return keys;
+    }
+    let first = 16 * (number as usize);
+    let mut after = keys;
+    let mut i: usize = 0;
+    while i < 16 {
+        after[first + i] = block[i];
+        i += 1;
+    }
+    after
 }
 
 // The first 15 bytes of a text, filled up with zeros.

@@ -12,11 +12,12 @@ use native.Mathlib.Omega.{arith}
 use Rattle.laws.specs.Ranges.{rowOf}
 use Rattle.laws.specs.Same.{same}
 use Rattle.aes.specs.State.{Block}
+use Rattle.basics.specs.Marks.{isMark, off, on, isOn}
 use Rattle.modes.specs.Cmac.{wholeBlocks, textMac}
 use Rattle.modes.proofs.MacSteps.{mac-block}
 use Rattle.message.specs.Slots.{flagsKept, counterKept}
-use Rattle.device.specs.Made.{isMark, slotFine, Sound}
-use Rattle.device.specs.Record.{bootMacKey, secretKey, ramKey, bootMac, off, on, isOn, markCount, bootedMark, secureBootMark, bootInitMark, bootFinishedMark, bootOkMark, isMarked, isEmpty, keyAt, counterAt, slotAt, setMark, Shaped}
+use Rattle.device.specs.Made.{slotFine, Sound}
+use Rattle.device.specs.Record.{bootMacKey, secretKey, ramKey, bootMac, markCount, bootedMark, secureBootMark, bootInitMark, bootFinishedMark, bootOkMark, isMarked, isEmpty, keyAt, counterAt, slotAt, setMark, Shaped}
 use Rattle.device.specs.Rules.{kept}
 use Rattle.device.specs.declared.Device.{Device}
 use Rattle.device.specs.declared.Slot.{Slot}

@@ -9,10 +9,11 @@ use lib.ListN.{length, replicate}
 use Rattle.laws.specs.Same.{same}
 use Rattle.aes.specs.Cipher.{cipher}
 use Rattle.basics.specs.Answers.{sequenceError, keyNotAvailable, noSecureBoot}
+use Rattle.basics.specs.Marks.{off, on}
 use Rattle.modes.specs.Cmac.{textMac}
 use Rattle.modes.specs.Number.{inBytes}
 use Rattle.device.specs.Account.{Account, unchanged, command}
-use Rattle.device.specs.Record.{bootMacKey, bootMac, off, on, bootedMark, secureBootMark, bootInitMark, bootFinishedMark, bootOkMark, isMarked, isEmpty, keyAt, setMark, putSlot}
+use Rattle.device.specs.Record.{bootMacKey, bootMac, bootedMark, secureBootMark, bootInitMark, bootFinishedMark, bootOkMark, isMarked, isEmpty, keyAt, setMark, putSlot}
 use Rattle.device.specs.Rules.{locked}
 use Rattle.device.specs.declared.Device.{Device}
 

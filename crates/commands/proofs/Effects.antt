@@ -14,11 +14,12 @@ use Rattle.aes.specs.State.{Block}
 use Rattle.aes.proofs.Bytes.{zero-block}
 use Rattle.basics.specs.Answers.{rngSeed}
 use Rattle.basics.proofs.Faults.{no-fault}
+use Rattle.basics.specs.Marks.{off, on, isOn}
 use Rattle.modes.specs.Blocks.{zeroBlock}
 use Rattle.message.specs.Slots.{flagsKept, counterKept}
 use Rattle.device.specs.Account.{answerBy}
 use Rattle.device.specs.Made.{newMarks, slotFine, Sound}
-use Rattle.device.specs.Record.{secretKey, ramKey, off, on, isOn, rngMark, plainMark, debuggerMark, isMarked, isEmpty, slotAt, setRandom, setMark, setMarks, putSlot, Shaped}
+use Rattle.device.specs.Record.{secretKey, ramKey, rngMark, plainMark, debuggerMark, isMarked, isEmpty, slotAt, setRandom, setMark, setMarks, putSlot, Shaped}
 use Rattle.device.specs.Rules.{kept}
 use Rattle.device.specs.declared.Device.{Device}
 use Rattle.device.specs.declared.Slot.{Slot}

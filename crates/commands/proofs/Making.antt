@@ -14,7 +14,8 @@ use Rattle.laws.proofs.Same.{equal-same}
 use Rattle.aes.specs.State.{Bytes}
 use Rattle.basics.specs.Answers.{noError, generalError}
 use Rattle.basics.proofs.Faults.{no-fault}
-use Rattle.device.specs.Made.{zeroUid, blank, fresh, Sound}
+use Rattle.basics.specs.Bytes.{zeroUid}
+use Rattle.device.specs.Made.{blank, fresh, Sound}
 use Rattle.device.specs.Outcome.{refused, done}
 use Rattle.device.proofs.Made.{fresh-sound}
 use Rattle.device.proofs.Account.{where-refused, where-done, same-answer}

@@ -12,6 +12,8 @@ use Rattle.laws.specs.Same.{same}
 use Rattle.aes.specs.Cipher.{cipher, invCipher}
 use Rattle.aes.specs.State.{byte}
 use Rattle.basics.specs.Answers.{generalError, firstFault, sequenceError, keyNotAvailable, rngSeed}
+use Rattle.basics.specs.Bytes.{zeroUid}
+use Rattle.basics.specs.Marks.{off, on}
 use Rattle.modes.specs.Answer.{threeBlocks, cbcLengths, cmacLengths}
 use Rattle.modes.specs.Blocks.{zeroBlock}
 use Rattle.modes.specs.Cbc.{cbcEncrypt, cbcDecrypt}
@@ -20,10 +22,10 @@ use Rattle.modes.specs.Compression.{compress, kdf}
 use Rattle.modes.specs.Constants.{constantOf}
 use Rattle.modes.specs.declared.Constant.the-variants.{PrngKey, PrngSeedKey, PrngExtension}
 use Rattle.message.specs.declared.Role.the-variants.{Cipher, GenerateMac, VerifyMac}
-use Rattle.device.specs.Made.{zeroUid, newMarks, blank, fresh}
+use Rattle.device.specs.Made.{newMarks, blank, fresh}
 use Rattle.device.specs.Account.{Account, unchanged, command}
 use Rattle.device.specs.Outcome.{Outcome, refused, done, byAnswer}
-use Rattle.device.specs.Record.{secretKey, masterEcuKey, ramKey, off, on, rngMark, plainMark, debuggerMark, isMarked, isEmpty, keyAt, setRandom, setMark, setMarks, putSlot}
+use Rattle.device.specs.Record.{secretKey, masterEcuKey, ramKey, rngMark, plainMark, debuggerMark, isMarked, isEmpty, keyAt, setRandom, setMark, setMarks, putSlot}
 use Rattle.device.specs.Rules.{locked, status}
 use Rattle.device.specs.declared.Device.{Device}
 use Rattle.commands.specs.Checks.{withKey}

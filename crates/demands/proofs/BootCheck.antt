@@ -16,13 +16,14 @@ use Rattle.laws.proofs.Test.{both}
 use Rattle.aes.specs.State.{byte}
 use Rattle.basics.specs.Answers.{noError, sequenceError, keyNotAvailable, noSecureBoot, generalError, firstFault}
 use Rattle.basics.proofs.Faults.{no-fault, found-first}
+use Rattle.basics.specs.Marks.{off, on, isOn}
 use Rattle.message.specs.Flags.{boot, debugger}
 use Rattle.modes.specs.Cmac.{textMac}
 use Rattle.aes.specs.Cipher.{cipher}
 use Rattle.device.specs.Account.{Account, answerBy, answerTo}
 use Rattle.device.specs.Made.{newMarks, made, Sound}
 use Rattle.device.specs.Outcome.{Outcome}
-use Rattle.device.specs.Record.{bootMacKey, bootMac, off, on, isOn, markCount, debuggerMark, bootedMark, secureBootMark, bootFinishedMark, bootOkMark, markAt, isMarked, isEmpty, keyAt, flagsAt, slotAt, setMark, setMarks}
+use Rattle.device.specs.Record.{bootMacKey, bootMac, markCount, debuggerMark, bootedMark, secureBootMark, bootFinishedMark, bootOkMark, markAt, isMarked, isEmpty, keyAt, flagsAt, slotAt, setMark, setMarks}
 use Rattle.device.specs.Rules.{hasFlag, locked}
 use Rattle.device.specs.declared.Device.{Device}
 use Rattle.device.specs.declared.Slot.{Slot}

@@ -15,10 +15,11 @@ use Rattle.laws.specs.Same.{same}
 use Rattle.aes.specs.State.{byte}
 use Rattle.basics.specs.Answers.{sequenceError, noSecureBoot}
 use Rattle.basics.proofs.Faults.{no-fault}
+use Rattle.basics.specs.Marks.{off, on, isOn}
 use Rattle.message.specs.Building.{targetOf}
 use Rattle.device.specs.Account.{answerBy, answerTo}
 use Rattle.device.specs.Made.{newMarks, fresh, Sound}
-use Rattle.device.specs.Record.{bootMac, ramKey, off, on, isOn, rngMark, plainMark, debuggerMark, bootedMark, secureBootMark, bootInitMark, bootFinishedMark, bootOkMark, markAt, isMarked, isEmpty, keyAt, setMark, withSlot, putSlot}
+use Rattle.device.specs.Record.{bootMac, ramKey, rngMark, plainMark, debuggerMark, bootedMark, secureBootMark, bootInitMark, bootFinishedMark, bootOkMark, markAt, isMarked, isEmpty, keyAt, setMark, withSlot, putSlot}
 use Rattle.device.specs.declared.Device.{Device}
 use Rattle.device.specs.declared.Slot.{Slot}
 use Rattle.device.proofs.Account.{made-and-long}

@@ -7,7 +7,8 @@ use native.Mathlib.Omega.{arith}
 use Rattle.laws.specs.Among.{Among}
 use Rattle.laws.proofs.Lengths.{each-right}
 use Rattle.laws.proofs.Same.{same-equal}
-use Rattle.device.specs.Made.{zeroUid, made, blank}
+use Rattle.basics.specs.Bytes.{zeroUid}
+use Rattle.device.specs.Made.{made, blank}
 use Rattle.device.specs.Outcome.{Outcome, refused}
 use Rattle.device.specs.declared.Device.{Device}
 use Rattle.device.proofs.Account.{not-made, not-long, then-own}

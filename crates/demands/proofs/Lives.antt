@@ -14,6 +14,7 @@ use Rattle.laws.proofs.Lengths.{each-right}
 use Rattle.laws.proofs.Same.{same-equal}
 use Rattle.aes.specs.State.{Bytes, Block}
 use Rattle.basics.specs.Answers.{noError}
+use Rattle.basics.specs.Marks.{off}
 use Rattle.message.specs.Building.{uidOf, targetOf, authorityOf, Carried}
 use Rattle.message.specs.Flags.{flagCount, write, boot, debugger}
 use Rattle.message.specs.Messages.{m1, m2, m3, m4, m5, Sent, build}
@@ -25,7 +26,7 @@ use Rattle.message.proofs.Written.{no-faults, is-written}
 use Rattle.device.specs.Made.{made as counts-as-made, Sound}
 use Rattle.device.specs.Outcome.{Outcome, done}
 use Rattle.device.specs.Account.{success}
-use Rattle.device.specs.Record.{secretKey, ramKey, off, plainMark, debuggerMark, markAt, isMarked, keyAt, flagsAt, slotAt}
+use Rattle.device.specs.Record.{secretKey, ramKey, plainMark, debuggerMark, markAt, isMarked, keyAt, flagsAt, slotAt}
 use Rattle.device.specs.Rules.{hasFlag, bootFailed, locked, status}
 use Rattle.device.proofs.Account.{then-own}
 use Rattle.device.proofs.Made.{Made, facts, secret-present, flagless}

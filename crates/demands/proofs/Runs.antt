@@ -12,10 +12,11 @@ use Rattle.laws.specs.Among.{Among, isAmong}
 use Rattle.laws.proofs.Among.{tested-among, among-tested}
 use Rattle.laws.proofs.Test.{both}
 use Rattle.basics.specs.Answers.{noError}
+use Rattle.basics.specs.Marks.{off, isOn}
 use Rattle.device.specs.Account.{answerTo, BringsBytes}
 use Rattle.device.specs.Made.{made, Sound}
 use Rattle.device.specs.Outcome.{Outcome}
-use Rattle.device.specs.Record.{secretKey, bootMac, off, isOn, isEmpty, counterAt, slotAt}
+use Rattle.device.specs.Record.{secretKey, bootMac, isEmpty, counterAt, slotAt}
 use Rattle.device.specs.declared.Device.{Device}
 use Rattle.device.specs.declared.Slot.{Slot}
 use Rattle.device.proofs.Effects.{Effect}

@@ -22,7 +22,7 @@ use Rattle.aes.specs.Steps.{substitute, subBytes, shiftRows, moveRows, matrix, 
 use Rattle.aes.specs.State.{byte, Block}
 use Rattle.aes.proofs.Bytes.{tested-bytes, zero-block}
 use Rattle.basics.specs.Answers.{noError, keyNotAvailable}
-use Rattle.basics.specs.Bytes.{blockAt}
+use Rattle.basics.specs.Bytes.{blockAt, putBlock}
 use Rattle.modes.specs.Answer.{threeBlocks, cmacLengths}
 use Rattle.modes.specs.Blocks.{zeroBlock}
 use Rattle.modes.specs.Cmac.{textMac}
@@ -59,7 +59,7 @@ unfolding reduce xtime mulBits mul square power inverse affine sbox _xor_ tabula
 published-block = refl
 
 plain-key : keyAt plain ramKey ≡ master
-unfolding putSlot blockAt tabulate
+unfolding putSlot putBlock blockAt tabulate
 plain-key = refl
 
 -- ---- the first demand
@@ -156,7 +156,7 @@ module _ (machine : Machine) (demand : Demand3 flagCount machine) where
   stale = refl
 
   pub not-taking-replays : TakesReplays machine → ⊥
-  unfolding m1 rightLengths loaded putSlot kept authorityKey blockAt tabulate
+  unfolding m1 rightLengths loaded putSlot putBlock kept authorityKey blockAt tabulate
   not-taking-replays sham =
       let once = key1-loads machine demand in
       let again = subst (λ (d : Device). machine d (load toKey1) .answer ≡ noError) (ap (λ (o : Outcome). o .device) once)
@@ -185,7 +185,7 @@ module _ (machine : Machine) (one : Demand1 flagCount machine) (two : Demand2 fl
       ap (λ (o : Outcome). o .device) (two .exact (booting mac) (secure-boot text) (boots mac block))
 
   measures : (mac : List ℕ) → measure (booting mac) text ≡ textMac (cipher master) (measured text)
-  unfolding measure loaded putSlot blockAt tabulate
+  unfolding measure loaded putSlot putBlock blockAt tabulate
   measures mac = refl
 
   not-both : ((mac : List ℕ) → Block mac → measure (booting mac) text ≡ mac) → ⊥

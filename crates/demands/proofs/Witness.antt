@@ -14,7 +14,8 @@ use Rattle.laws.specs.Tabulate.{tabulate}
 use Rattle.aes.specs.State.{Block}
 use Rattle.aes.proofs.Bytes.{tested-bytes}
 use Rattle.basics.specs.Answers.{keyInvalid, keyUpdateError}
-use Rattle.basics.specs.Bytes.{blockAt}
+use Rattle.basics.specs.Bytes.{blockAt, putBlock}
+use Rattle.basics.specs.Marks.{on}
 use Rattle.modes.specs.Blocks.{Text}
 use Rattle.message.specs.Building.{Carried}
 use Rattle.message.specs.Messages.{m1, m2, m3}
@@ -25,7 +26,7 @@ use Rattle.message.specs.declared.Role.{Role}
 use Rattle.device.specs.Made.{made, slotFine, slotsFine, marksFine, Sound}
 use Rattle.device.specs.Account.{answerBy, perform}
 use Rattle.device.specs.Outcome.{done, refused, byAnswer}
-use Rattle.device.specs.Record.{masterEcuKey, bootMacKey, bootMac, ramKey, on, secureBootMark, keyAt, putSlot}
+use Rattle.device.specs.Record.{masterEcuKey, bootMacKey, bootMac, ramKey, secureBootMark, keyAt, putSlot}
 use Rattle.device.specs.Rules.{kept, locked, usageFits}
 use Rattle.device.specs.declared.Slot.{Slot}
 use Rattle.device.proofs.Effects.{sets-mark}
@@ -87,7 +88,7 @@ key1-rules =
     record { pair = refl; writable = refl; present = λ empty. absurd (false≢true empty); unlocked = refl; for-us = refl; rises = refl }
 
 pub key1-loads : (machine : Machine) → Demand3 flagCount machine → machine keyed (load toKey1) ≡ keyLoaded keyed key1 masterEcuKey 1 0 door
-unfolding authorityKey putSlot loaded blockAt tabulate
+unfolding authorityKey putSlot putBlock loaded blockAt tabulate
 key1-loads machine demand =
     built-loads flagCount machine demand keyed keyed-sound uid door key1 masterEcuKey 1 0 refl
     door-carried key1-rules (replicate 32 0) (replicate 16 0) refl refl
@@ -99,7 +100,7 @@ fitted-sound =
 -- ---- a pair that is not allowed: the master key by KEY_1. All of it is computed
 pub mispaired-refused : step flagCount keyed (load-key (m1 uid masterEcuKey key1) (replicate 32 0) (replicate 16 0)
     (replicate 32 0) (replicate 16 0)) ≡ refused keyInvalid keyed (replicate 32 0 ∷ replicate 16 0 ∷ [])
-unfolding loadKey perform answerBy byAnswer rightLengths m1 allowed made slotsFine marksFine slotFine same counterKept kept flagsKept rowOf all loaded putSlot blockAt tabulate plainAfter
+unfolding loadKey perform answerBy byAnswer rightLengths m1 allowed made slotsFine marksFine slotFine same counterKept kept flagsKept rowOf all loaded putSlot putBlock blockAt tabulate plainAfter
 mispaired-refused = refl
 
 -- ---- and the same message again
@@ -111,7 +112,7 @@ key1-m3 = m3-block master master-block (toKey1 .m1) (toKey1 .m2)
 
 opens-again : openedBy flagCount fitted (toKey1 .m1) (toKey1 .m2) (toKey1 .m3)
     ≡ record { genuine = true; counter = 1; flags = 0; zerofill = true; key = door }
-unfolding m1 authorityKey loaded putSlot blockAt tabulate
+unfolding m1 authorityKey loaded putSlot putBlock blockAt tabulate
 opens-again =
     handed-back flagCount (omega arith) master (toKey1 .m1) (toKey1 .m2) (toKey1 .m3) master-block refl key1-m2 (key1-m3 .long) 1 0 door
     door-carried refl

@@ -7,10 +7,11 @@ use Prim.Native.Nat.{ℕ}
 use lib.ListN.{length}
 use Rattle.laws.specs.Among.{Among}
 use Rattle.basics.specs.Answers.{noError, sequenceError, keyNotAvailable}
+use Rattle.basics.specs.Marks.{on}
 use Rattle.message.specs.Flags.{boot}
 use Rattle.device.specs.Account.{Account, answerBy}
 use Rattle.device.specs.Made.{fresh, Sound}
-use Rattle.device.specs.Record.{bootMacKey, bootMac, on, bootedMark, secureBootMark, bootInitMark, bootFinishedMark, bootOkMark, isMarked, isEmpty, keyAt, flagsAt, setMark}
+use Rattle.device.specs.Record.{bootMacKey, bootMac, bootedMark, secureBootMark, bootInitMark, bootFinishedMark, bootOkMark, isMarked, isEmpty, keyAt, flagsAt, setMark}
 use Rattle.device.specs.Rules.{hasFlag}
 use Rattle.device.specs.declared.Device.{Device}
 use Rattle.boot.specs.Boot.{measure, bootLengths, checked}

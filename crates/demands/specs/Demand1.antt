@@ -10,7 +10,8 @@ use lib.ListN.{length}
 use Rattle.laws.specs.Among.{Among}
 use Rattle.aes.specs.State.{Bytes}
 use Rattle.basics.specs.Answers.{noError, generalError, keyInvalid, sequenceError, keyNotAvailable, keyEmpty, noSecureBoot, keyWriteProtected, keyUpdateError, rngSeed}
-use Rattle.device.specs.Made.{zeroUid, made, blank, fresh, Sound}
+use Rattle.basics.specs.Bytes.{zeroUid}
+use Rattle.device.specs.Made.{made, blank, fresh, Sound}
 use Rattle.device.specs.Account.{names, answerTo}
 use Rattle.device.specs.Outcome.{Outcome, refused, done}
 use Rattle.device.specs.Record.{ramKey}

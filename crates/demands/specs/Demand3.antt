@@ -12,12 +12,13 @@ use lib.ListN.{length}
 use Rattle.laws.specs.Lengths.{rightLengths}
 use Rattle.aes.specs.State.{Bytes}
 use Rattle.basics.specs.Answers.{noError}
+use Rattle.basics.specs.Marks.{off}
 use Rattle.message.specs.Building.{uidOf, targetOf, authorityOf, Carried}
 use Rattle.message.specs.Flags.{write}
 use Rattle.message.specs.Messages.{sent, build}
 use Rattle.message.specs.Slots.{allowed}
 use Rattle.device.specs.Made.{made, Sound}
-use Rattle.device.specs.Record.{secretKey, bootMac, off, plainMark, markAt, isEmpty, counterAt, flagsAt, slotAt, setMark, besideSlots}
+use Rattle.device.specs.Record.{secretKey, bootMac, plainMark, markAt, isEmpty, counterAt, flagsAt, slotAt, setMark, besideSlots}
 use Rattle.device.specs.Rules.{hasFlag, locked}
 use Rattle.device.specs.declared.Device.{Device}
 use Rattle.device.specs.declared.Slot.{Slot}

@@ -8,11 +8,12 @@ use Prim.Native.Nat.{ℕ}
 use lib.ListN.{length}
 use Rattle.aes.specs.State.{Bytes}
 use Rattle.basics.specs.Answers.{noError}
+use Rattle.basics.specs.Marks.{off}
 use Rattle.message.specs.Flags.{flagCount}
 use Rattle.message.specs.Writer.{fullForm, proofForm}
 use Rattle.device.specs.Made.{made, Sound}
 use Rattle.device.specs.Outcome.{done}
-use Rattle.device.specs.Record.{ramKey, off, plainMark, markAt, keyAt, slotAt}
+use Rattle.device.specs.Record.{ramKey, plainMark, markAt, keyAt, slotAt}
 use Rattle.device.specs.Rules.{status}
 use Rattle.device.specs.declared.Device.{Device}
 use Rattle.load.specs.Load.{keyLoaded}

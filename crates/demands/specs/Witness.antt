@@ -3,10 +3,11 @@
 use mathlib.Core.List.{List, [], _∷_}
 use Prim.Native.Nat.{ℕ}
 use lib.ListN.{replicate}
+use Rattle.basics.specs.Marks.{off, on}
 use Rattle.message.specs.Flags.{flagCount, boot}
 use Rattle.message.specs.Messages.{Sent, build}
 use Rattle.device.specs.Made.{fresh}
-use Rattle.device.specs.Record.{masterEcuKey, bootMacKey, bootMac, ramKey, off, on, plainMark, secureBootMark, setMark, putSlot}
+use Rattle.device.specs.Record.{masterEcuKey, bootMacKey, bootMac, ramKey, plainMark, secureBootMark, setMark, putSlot}
 use Rattle.device.specs.declared.Device.{Device}
 use Rattle.load.specs.Rules.{loaded}
 use Rattle.demands.specs.Calls.{Call, load-key}

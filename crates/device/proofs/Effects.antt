@@ -7,8 +7,9 @@ use mathlib.Core.List.{List, []}
 use Prim.Native.Nat.{ℕ, _≤_, _<_}
 use native.Mathlib.Omega.{arith}
 use Rattle.laws.specs.Among.{Among}
+use Rattle.basics.specs.Marks.{isMark}
 use Rattle.device.specs.Account.{Account, answerTo, BringsBytes}
-use Rattle.device.specs.Made.{isMark, Sound}
+use Rattle.device.specs.Made.{Sound}
 use Rattle.device.specs.Record.{markCount, rngMark, plainMark, madeMark, isEmpty, counterAt, slotAt, setMark}
 use Rattle.device.specs.declared.Device.{Device}
 use Rattle.device.specs.declared.Slot.{Slot}

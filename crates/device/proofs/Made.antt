@@ -20,12 +20,13 @@ use Rattle.laws.specs.Tabulate.{tabulate}
 use Rattle.laws.proofs.Test.{both, all-each, each-all}
 use Rattle.aes.proofs.Bytes.{zero-bytes}
 use Rattle.aes.specs.State.{byte, Block, Bytes}
-use Rattle.basics.specs.Bytes.{blockAt}
+use Rattle.basics.specs.Bytes.{blockAt, zeroUid}
+use Rattle.basics.specs.Marks.{isMark, off, isOn}
 use Rattle.modes.specs.Blocks.{zeroBlock}
 use Rattle.message.specs.FirstBlock.{maxCounter}
 use Rattle.message.specs.Slots.{flagsKept, counterKept}
-use Rattle.device.specs.Made.{isMark, zeroUid, isZero, slotFine, slotsFine, marksFine, made, newMarks, unkeyed, fresh, Sound}
-use Rattle.device.specs.Record.{secretKey, ramKey, off, isOn, markCount, rngMark, plainMark, madeMark, markAt, isMarked, keyAt, counterAt, flagsAt, emptyAt, isEmpty, slotAt, setMark, withSlot, putSlot, Shaped}
+use Rattle.device.specs.Made.{isZero, slotFine, slotsFine, marksFine, made, newMarks, unkeyed, fresh, Sound}
+use Rattle.device.specs.Record.{secretKey, ramKey, markCount, rngMark, plainMark, madeMark, markAt, isMarked, keyAt, counterAt, flagsAt, emptyAt, isEmpty, slotAt, setMark, withSlot, putSlot, Shaped}
 use Rattle.device.specs.Rules.{kept}
 use Rattle.device.specs.declared.Device.{Device}
 use Rattle.device.specs.declared.Slot.{Slot}

@@ -6,7 +6,8 @@ use Prim.Native.Nat.{ℕ, _<_}
 use native.Mathlib.Omega.{arith}
 use lib.ListN.{length, set, length-set}
 use lib.Seq.{getD-set-same, getD-set-other}
-use Rattle.device.specs.Record.{isOn, markCount, isMarked, setMark, setMarks, Shaped}
+use Rattle.basics.specs.Marks.{isOn}
+use Rattle.device.specs.Record.{markCount, isMarked, setMark, setMarks, Shaped}
 use Rattle.device.specs.declared.Device.{Device}
 
 pub marks-shape : (marks : List ℕ) (d : Device) → length marks ≡ markCount → Shaped d → Shaped (setMarks marks d)

@@ -8,20 +8,15 @@ use lib.Dec.{eqb, leb}
 use lib.ListN.{replicate, set}
 use Rattle.laws.specs.All.{all}
 use Rattle.laws.specs.Same.{same}
+use Rattle.basics.specs.Bytes.{zeroUid}
+use Rattle.basics.specs.Marks.{off, on, isOn, isMark}
 use Rattle.modes.specs.Blocks.{zeroBlock}
 use Rattle.message.specs.FirstBlock.{maxCounter}
 use Rattle.message.specs.Slots.{counterKept}
-use Rattle.device.specs.Record.{secretKey, ramKey, off, on, isOn, markCount, rngMark, plainMark, madeMark, markAt, isMarked, isEmpty, slotAt, setMarks, putSlot, Shaped}
+use Rattle.device.specs.Record.{secretKey, ramKey, markCount, rngMark, plainMark, madeMark, markAt, isMarked, isEmpty, slotAt, setMarks, putSlot, Shaped}
 use Rattle.device.specs.Rules.{kept}
 use Rattle.device.specs.declared.Device.{Device}
 use Rattle.device.specs.declared.Slot.{Slot}
-
--- the mark is on or off
-abbrev pub isMark : ℕ → Bool
-isMark mark = leb mark on
-
-abbrev pub zeroUid : List ℕ
-zeroUid = replicate 15 0
 
 -- all zero besides its empty mark
 abbrev pub isZero : Slot → Bool

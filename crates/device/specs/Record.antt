@@ -3,12 +3,12 @@
 use mathlib.Core.Path.{_≡_}
 use mathlib.Core.Bool.{Bool, cond}
 use mathlib.Core.List.{List, []}
-use Prim.Native.Nat.{ℕ, _*_}
-use lib.Dec.{eqb, leb}
+use Prim.Native.Nat.{ℕ}
+use lib.Dec.{leb}
 use lib.ListN.{length, getD, set}
-use lib.Seq.{paste}
 use Rattle.aes.specs.State.{byte, Bytes}
-use Rattle.basics.specs.Bytes.{blockAt}
+use Rattle.basics.specs.Bytes.{blockAt, putBlock}
+use Rattle.basics.specs.Marks.{isOn}
 use Rattle.device.specs.declared.Device.{Device}
 use Rattle.device.specs.declared.Slot.{Slot}
 
@@ -28,18 +28,9 @@ bootMac = 3
 abbrev pub ramKey : ℕ
 ramKey = 14
 
--- ---- marks, each a byte that is on or off: how many there are, and the places of those that mean something: random numbers are
--- initialised; slot 14 came in plain; a debugger is attached; the device is made; SECURE_BOOT succeeded since reset; and the four
--- bits that the status shows of it: SECURE_BOOT, BOOT_INIT, BOOT_FINISHED and BOOT_OK
-abbrev pub off : ℕ
-off = 0
-
-abbrev pub on : ℕ
-on = 1
-
-abbrev pub isOn : ℕ → Bool
-isOn mark = eqb mark on
-
+-- ---- marks: how many there are, and the places of those that mean something: random numbers are initialised; slot 14 came in
+-- plain; a debugger is attached; the device is made; SECURE_BOOT succeeded since reset; and the four bits that the status shows of
+-- it: SECURE_BOOT, BOOT_INIT, BOOT_FINISHED and BOOT_OK
 abbrev pub markCount : ℕ
 markCount = 11
 
@@ -125,7 +116,7 @@ withSlots keys counters flags empty d = rebuilt keys counters flags empty (d .se
 
 abbrev pub withSlot : ℕ → Slot → Device → Device
 withSlot slot new d =
-    withSlots (paste (d .keys) (16 * slot) (new .key) 16) (set (d .counters) slot (new .counter)) (set (d .flags) slot (new .flags))
+    withSlots (putBlock (d .keys) slot (new .key)) (set (d .counters) slot (new .counter)) (set (d .flags) slot (new .flags))
     (set (d .empty) slot (new .empty)) d
 
 -- a number that is no slot changes nothing

@@ -7,6 +7,8 @@ ghost use Prim.Native.Nat.{_≤_};
 ghost use Rattle.device.specs.Made.{slotFine, slotsFine, marksFine, made, newMarks, unset, blank, fresh};
 ghost use Rattle.device.specs.Record.{isMarked, keyAt, counterAt, emptyAt, flagsAt, isEmpty, setMarks, putSlot, Shaped};
 ghost use Rattle.device.specs.Rules.{hasFlag, kept, bootFailed, locked, isMac, usageFits, bitWhere, status};
+use basics::OFF;
+use basics::ON;
 use message::Role;
 
 // Slots that a rule names.
@@ -19,11 +21,6 @@ pub const BOOT_MAC_KEY: u8 = 2;
 pub const BOOT_MAC: u8 = 3;
 
 pub const RAM_KEY: u8 = 14;
-
-// Marks are bytes; a record with any other byte in the place of one does not count as made.
-pub const OFF: u8 = 0;
-
-pub const ON: u8 = 1;
 
 // The places of the marks: random numbers are initialised, slot 14 came in plain, a debugger is attached, the device is made,
 // SECURE_BOOT succeeded since reset, and the four bits of the status about it. The other places are for marks to come: making and
@@ -134,13 +131,10 @@ pub fn put_slot(device: Device, slot: u8, new: Slot) -> Device
     }
     let n = slot as usize;
     let mut after = device;
-    let mut keys = device.keys;
-    let mut i: usize = 0;
-    while i < 16 {
-        keys[16 * n + i] = new.key[i];
-        i += 1;
-    }
-    after.keys = keys;
+    let keys = device.keys;
+    let key = new.key;
+    let stored = basics::put_block(keys, slot, key);
+    after.keys = stored;
     after.counters[n] = new.counter;
     after.flags[n] = new.flags;
     after.empty[n] = new.empty;

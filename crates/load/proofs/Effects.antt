@@ -16,6 +16,7 @@ use Rattle.laws.proofs.And.{and-twice}
 use Rattle.laws.proofs.Lengths.{each-right}
 use Rattle.aes.specs.State.{Bytes, Block}
 use Rattle.aes.proofs.Bytes.{tested-bytes}
+use Rattle.basics.specs.Marks.{isMark, off, isOn}
 use Rattle.message.specs.Building.{uidOf, targetOf, authorityOf, Carried}
 use Rattle.message.specs.FirstBlock.{maxCounter}
 use Rattle.message.specs.Messages.{sent, build}
@@ -24,8 +25,8 @@ use Rattle.message.specs.declared.Opened.{Opened}
 use Rattle.message.proofs.Building.{opens}
 use Rattle.message.proofs.Slots.{pair-slots, counter-1-13}
 use Rattle.device.specs.Account.{answerBy}
-use Rattle.device.specs.Made.{isMark, slotFine, Sound}
-use Rattle.device.specs.Record.{secretKey, ramKey, off, isOn, plainMark, markAt, isMarked, isEmpty, keyAt, counterAt, slotAt, setMark, withSlot, besideSlots, Shaped}
+use Rattle.device.specs.Made.{slotFine, Sound}
+use Rattle.device.specs.Record.{secretKey, ramKey, plainMark, markAt, isMarked, isEmpty, keyAt, counterAt, slotAt, setMark, withSlot, besideSlots, Shaped}
 use Rattle.device.specs.Rules.{kept}
 use Rattle.device.specs.declared.Device.{Device}
 use Rattle.device.specs.declared.Slot.{Slot}

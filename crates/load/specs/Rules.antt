@@ -4,19 +4,20 @@ use mathlib.Core.Bool.{Bool, not, cond, _&&_, _||_}
 use mathlib.Core.List.{List}
 use Prim.Native.Nat.{ℕ}
 use lib.Dec.{eqb, ltb}
-use lib.ListN.{replicate}
 use Rattle.laws.specs.Same.{same}
+use Rattle.basics.specs.Bytes.{zeroUid}
+use Rattle.basics.specs.Marks.{off}
 use Rattle.message.specs.Flags.{wildcard}
+use Rattle.message.specs.Messages.{emptyKey}
 use Rattle.message.specs.Slots.{counterKept}
-use Rattle.device.specs.Made.{zeroUid}
-use Rattle.device.specs.Record.{ramKey, off, plainMark, markAt, isEmpty, keyAt, counterAt, flagsAt, setMark, putSlot}
+use Rattle.device.specs.Record.{ramKey, plainMark, markAt, isEmpty, keyAt, counterAt, flagsAt, setMark, putSlot}
 use Rattle.device.specs.Rules.{hasFlag, kept}
 use Rattle.device.specs.declared.Device.{Device}
 use Rattle.device.specs.declared.Slot.{Slot}
 
--- an empty slot that authorises itself counts as 16 bytes of FF
+-- what the authority's slot holds, or counts as
 unfoldable pub authorityKey : Device → ℕ → List ℕ
-authorityKey d authority = cond (isEmpty d authority) (replicate 16 0xff) (keyAt d authority)
+authorityKey d authority = cond (isEmpty d authority) emptyKey (keyAt d authority)
 
 -- UID' is the device's, or is all zero (the wildcard) and the target's WILDCARD is 0; target 14 takes the wildcard
 unfoldable pub isForUs : Device → ℕ → List ℕ → Bool

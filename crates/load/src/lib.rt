@@ -19,8 +19,8 @@ ghost use Rattle.load.specs.Load.{fiveLengths, pairChecks, openedAnswer,
 ghost use Rattle.load.specs.Rules.{authorityKey, isForUs, counterRises, plainAfter, loaded};
 use basics::GENERAL_ERROR;
 use basics::NO_ERROR;
+use basics::OFF;
 use device::Device;
-use device::OFF;
 use device::PLAIN_MARK;
 use device::RAM_KEY;
 use device::Reply;

@@ -19,6 +19,7 @@ use Rattle.laws.proofs.Test.{both}
 use Rattle.aes.specs.Cipher.{cipher}
 use Rattle.aes.specs.State.{byte, Block}
 use Rattle.aes.proofs.Bytes.{append-bytes, zero-block}
+use Rattle.aes.proofs.RoundTrip.{cipher-block}
 use Rattle.modes.specs.Blocks.{zeroBlock, Text}
 use Rattle.modes.specs.Cbc.{cbcEncrypt}
 use Rattle.modes.specs.Constants.{constantOf}
@@ -29,7 +30,7 @@ use Rattle.modes.proofs.MacSteps.{mac-block}
 use Rattle.modes.proofs.Texts.{first, rest}
 use Rattle.message.specs.Building.{uidOf, targetOf, authorityOf, Carried}
 use Rattle.message.specs.FirstBlock.{firstBlock, counterOf, flagsOf, fillerOf}
-use Rattle.message.specs.Messages.{encKey, macKey, m1, m2, m3, Sent, sent, build}
+use Rattle.message.specs.Messages.{encKey, macKey, m1, m2, m3, m4, m5, Sent, sent, build}
 use Rattle.message.specs.Opening.{openLengths, clearText, openedText, unopened, opened}
 use Rattle.message.specs.declared.Opened.{Opened}
 use Rattle.message.proofs.Opening.{opened-by-m3}
@@ -216,3 +217,13 @@ one-to-one n few authKey uid uid′ key key′ t a c f t′ a′ c′ f′ hs lo
     let named = m1-determines uid uid′ t a t′ a′ long long′ small small′ (ap (λ (s : Sent). s .m1) e) in
     let carried = m2-determines n few authKey key key′ c f c′ f′ hs h h′ (ap (λ (s : Sent). s .m2) e) in
     (named .0, named .1, named .2, carried .0, carried .1, carried .2)
+
+-- ---- the device's proof: as many bytes as it must have
+pub m4-long : (uid key : List ℕ) (t a c : ℕ) → length uid ≡ 15 → Block key → length (m4 uid t a c key) ≡ 32
+unfolding m4
+m4-long uid key t a c long hk =
+    length-append (m1 uid t a) _ ∙ ap₂ (λ (m k : ℕ). m + k) (m1-long uid t a long) (cipher-block (encKey key) _ (k1-block key hk) .long)
+
+pub m5-long : (key four : List ℕ) → Block key → length (m5 key four) ≡ 16
+unfolding m5
+m5-long key four hk = mac-block (macKey key) 256 four (kdf-block key (constantOf KeyUpdateMac) hk (constant-block KeyUpdateMac)) .long

@@ -1,7 +1,7 @@
 -- The tables of the slots, range by range. A law for each range of each table says what the table has there, as the arms of
 -- the code's `match` ask for it.
 -- Assumes nothing.
-use mathlib.Core.Path.{_≡_}
+use mathlib.Core.Path.{_≡_, refl, sym, _∙_}
 use mathlib.Core.Bool.{Bool, true, false, cond, _||_, false≢true}
 use mathlib.Core.List.{[]}
 use mathlib.Core.Logic.{⊎-elim}
@@ -12,6 +12,8 @@ use lib.Dec.{eqb, leb}
 use Rattle.laws.specs.Ranges.{within, rowOf}
 use Rattle.laws.proofs.Ranges.{inside, below, above, apart, by-row}
 use Rattle.laws.proofs.Test.{both, either}
+use Rattle.basics.specs.Wide.{saturated}
+use Rattle.basics.proofs.Wide.{saturates}
 use Rattle.message.specs.Slots.{kindOf, hasRole, flagsKept, counterKept, allowed}
 use Rattle.message.specs.declared.Kind.the-variants.{KeyN, NoSlot}
 use Rattle.message.specs.declared.Role.{Role}
@@ -134,3 +136,16 @@ module _ (t a : ℕ) where
     where
       ram : 14 ≤ t → t ≤ 14 → (within 4 13 a || eqb a 0) ≡ true → Slots
       ram l h e = ⊎-elim (λ x. (omega arith, h, leb-true a 13 (both (leb 4 a) (leb a 13) x .1))) (λ y. (omega arith, h, omega (arith, eqb-true a 0 y))) (either (within 4 13 a) (eqb a 0) e)
+
+-- ---- wide numbers: a pair is allowed exactly where it is so of the numbers saturated
+pub no-authority : (t a : ℕ) → 13 < a → allowed t a ≡ false
+no-authority t a h = tests (allowed t a) refl
+  where
+    tests : (b : Bool) → allowed t a ≡ b → b ≡ false
+    tests true e = absurd (omega (arith, pair-slots t a e .2, h))
+    tests false e = refl
+
+pub wide-pair : (t a : ℕ) → allowed (saturated 255 t) (saturated 255 a) ≡ allowed t a
+wide-pair t a =
+    saturates (λ (s : ℕ). allowed s (saturated 255 a)) 255 t (λ h. sym (pair-15 255 _ (omega arith)) ∙ pair-15 t _ (omega arith))
+    ∙ saturates (allowed t) 255 a (λ h. no-authority t 255 (omega arith) ∙ sym (no-authority t a (omega arith)))

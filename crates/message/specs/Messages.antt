@@ -2,6 +2,7 @@
 -- Assumes nothing.
 use mathlib.Core.List.{List, [], _∷_, _++_}
 use Prim.Native.Nat.{ℕ, _+_, _*_, _/_, _%_}
+use lib.ListN.{replicate}
 use Rattle.aes.specs.Cipher.{cipher}
 use Rattle.modes.specs.Blocks.{zeroBlock}
 use Rattle.modes.specs.Cbc.{cbcEncrypt}
@@ -10,6 +11,10 @@ use Rattle.modes.specs.Compression.{kdf}
 use Rattle.modes.specs.Constants.{constantOf}
 use Rattle.modes.specs.declared.Constant.the-variants.{KeyUpdateEnc, KeyUpdateMac}
 use Rattle.message.specs.FirstBlock.{firstBlock, proofBlock}
+
+-- an empty slot that authorises itself counts as 16 bytes of FF
+abbrev pub emptyKey : List ℕ
+emptyKey = replicate 16 0xff
 
 -- KDF(KEY, KEY_UPDATE_ENC_C): K1 of the authority's key, K3 of the new one
 abbrev pub encKey : List ℕ → List ℕ

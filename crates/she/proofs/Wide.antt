@@ -1,22 +1,21 @@
--- Wide numbers. Where a number is wider than its place, a definition refuses it and the largest of the place alike; so it
--- says the same of a number and of the number saturated. `saturates` says so in general: what is the same for the limit and
--- for every number above it is the same for a number and for it saturated.
+-- Wide numbers: what each definition says of a number, it says of the number saturated (`basics/proofs/Wide.antt`).
 -- Assumes nothing.
 use mathlib.Core.Path.{_≡_, refl, sym, ap, _∙_}
 use mathlib.Core.Bool.{Bool, true, false, not, cond, _&&_, and-false}
 use mathlib.Core.List.{List}
 use Prim.Native.Nat.{ℕ, _≤_, _<_}
 use native.Mathlib.Omega.{arith}
-use borrow.Author.Tests.{le-leb, lt-leb, leb-false, eqb-true, eqb-false}
-use lib.Dec.{eqb, leb}
+use borrow.Author.Tests.{lt-leb}
+use lib.Dec.{leb}
 use lib.ListN.{length}
 use Rattle.laws.specs.Lengths.{rightLengths}
 use Rattle.basics.specs.Answers.{generalError, keyInvalid}
+use Rattle.basics.specs.Wide.{saturated}
+use Rattle.basics.proofs.Wide.{saturates, fitting, wide-test, by-answer}
 use Rattle.message.specs.FirstBlock.{maxCounter}
-use Rattle.message.specs.Slots.{allowed}
 use Rattle.message.specs.Writer.{messageLengths, writerAnswer, fullForm, shortFlags, shortForm, proofLengths, proofForm}
 use Rattle.message.specs.declared.Role.{Role}
-use Rattle.message.proofs.Slots.{role-15, pair-15, pair-slots}
+use Rattle.message.proofs.Slots.{role-15, pair-slots, wide-pair}
 use Rattle.message.proofs.Written.{no-faults, messages-refused, proof-refused}
 use Rattle.device.specs.Made.{made}
 use Rattle.device.specs.Account.{Account, answerBy, perform}
@@ -24,21 +23,6 @@ use Rattle.device.specs.Outcome.{refused}
 use Rattle.device.specs.declared.Device.{Device}
 use Rattle.device.proofs.Account.{is-refused, not-long}
 use Rattle.commands.specs.Checks.{slotChecks, Use, withKey}
-use Rattle.she.specs.She.{saturated}
-
--- what is the same for the limit and for every number above it, is the same for a number and for it saturated
-pub saturates : {X : Type 0} (says : ℕ → X) (limit n : ℕ) → (limit < n → says limit ≡ says n) → says (saturated limit n) ≡ says n
-unfolding saturated
-saturates says limit n wide = tests (leb n limit) refl
-  where
-    tests : (b : Bool) → leb n limit ≡ b → says (cond b n limit) ≡ says n
-    tests true e = refl
-    tests false e = wide (leb-false n limit e)
-
--- a number that fits is itself
-pub fitting : (limit n : ℕ) → n ≤ limit → saturated limit n ≡ n
-unfolding saturated
-fitting limit n h = ap (λ (b : Bool). cond b n limit) (le-leb n limit h)
 
 -- ---- the slot of a call that uses a key
 not-zero : (a b : Bool) → cond a generalError (cond b generalError keyInvalid) ≡ 0 → ⊥
@@ -77,22 +61,6 @@ module _ (d : Device) (slot : ℕ) (role : Role) (lent brought : List (List ℕ)
   wide-length n = saturates (λ (m : ℕ). perform (call m) d) 255 n (λ h. sym (too-long 255 (omega arith)) ∙ too-long n (omega arith))
 
 -- ---- the numbers of a key message: counter, flags and the two slots
-wide-test : (limit bound n : ℕ) → bound < limit → leb (saturated limit n) bound ≡ leb n bound
-wide-test limit bound n room =
-    saturates (λ (m : ℕ). leb m bound) limit n (λ h. lt-leb limit bound room ∙ sym (lt-leb n bound (omega arith)))
-
-no-authority : (t a : ℕ) → 13 < a → allowed t a ≡ false
-no-authority t a h = tests (allowed t a) refl
-  where
-    tests : (b : Bool) → allowed t a ≡ b → b ≡ false
-    tests true e = absurd (omega (arith, pair-slots t a e .2, h))
-    tests false e = refl
-
-wide-pair : (t a : ℕ) → allowed (saturated 255 t) (saturated 255 a) ≡ allowed t a
-wide-pair t a =
-    saturates (λ (s : ℕ). allowed s (saturated 255 a)) 255 t (λ h. sym (pair-15 255 _ (omega arith)) ∙ pair-15 t _ (omega arith))
-    ∙ saturates (allowed t) 255 a (λ h. no-authority t 255 (omega arith) ∙ sym (no-authority t a (omega arith)))
-
 abbrev limit32 : ℕ
 limit32 = 0xffffffff
 
@@ -112,14 +80,6 @@ all-fit lengths c f t a e =
     let counter = fitting limit32 c (omega (arith, fine .1)) in
     let flags = fitting 255 f (omega (arith, fine .2)) in
     (counter, flags, fitting 255 t (omega (arith, slots .1)), fitting 255 a (omega (arith, slots .2)))
-
--- two outcomes are one where they are so for an answer of 0 and for any other
-by-answer : {X : Type 0} {x y : X} (answer : ℕ) → (answer ≡ 0 → x ≡ y) → ((answer ≡ 0 → ⊥) → x ≡ y) → x ≡ y
-by-answer {x = x} {y = y} answer done refused = tests (eqb answer 0) refl
-  where
-    tests : (b : Bool) → eqb answer 0 ≡ b → x ≡ y
-    tests true e = done (eqb-true answer 0 e)
-    tests false e = refused (eqb-false answer 0 e)
 
 pub wide-form : (uid authKey key b1 b2 b3 : List ℕ) (t a c f : ℕ)
     → fullForm uid (saturated 255 t) (saturated 255 a) authKey (saturated limit32 c) (saturated 255 f) key b1 b2 b3

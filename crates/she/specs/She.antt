@@ -1,18 +1,12 @@
--- What the layer for C adds to the core: wide numbers on their way to a narrower place, and making over a record.
+-- What the layer for C adds to the core: making over a record.
 -- Assumes nothing.
-use mathlib.Core.Bool.{cond}
 use mathlib.Core.List.{List, []}
 use Prim.Native.Nat.{ℕ}
-use lib.Dec.{leb}
 use lib.ListN.{length}
 use Rattle.device.specs.Made.{fresh}
 use Rattle.device.specs.Outcome.{Outcome, refused, done, byAnswer}
 use Rattle.device.specs.declared.Device.{Device}
 use Rattle.commands.specs.Commands.{makeAnswer}
-
--- a number in a place whose largest is `limit`
-unfoldable pub saturated : ℕ → ℕ → ℕ
-saturated limit number = cond (leb number limit) number limit
 
 -- making over a record: it holds the device that was made where the answer is 0, and what it held where it is any other
 unfoldable pub makeAnew : Device → List ℕ → List ℕ → List ℕ → Outcome

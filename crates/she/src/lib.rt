@@ -5,6 +5,7 @@
 // promises don't speak of that: each is the core's own definition, of the number as it came in. So slot 0x104 is no slot here.
 ghost use mathlib.Core.Path.{_≡_};
 ghost use mathlib.Core.List.{_∷_, []};
+ghost use Rattle.basics.specs.Wide.{saturated};
 ghost use Rattle.modes.specs.Routines.{ecbEncryption, ecbDecryption, cbcEncryption, cbcDecryption, authentication, derivation};
 ghost use Rattle.message.specs.Flags.{flagCount};
 ghost use Rattle.message.specs.Writer.{messages, fullForm, shortForm, fleetSheet, proof, proofForm};
@@ -14,19 +15,11 @@ ghost use Rattle.boot.specs.Boot.{secureBoot, bootFailure, bootOk};
 ghost use Rattle.commands.specs.Commands.{reset, attachDebugger, encEcb, decEcb, encCbc, decCbc, generateMac, verifyMac, loadPlainKey, initRng, extendSeed, rnd, getStatus, getId};
 ghost use Rattle.load.specs.Load.{loadKey};
 ghost use Rattle.load.specs.Export.{exportRamKey};
-ghost use Rattle.she.specs.She.{saturated, makeAnew};
+ghost use Rattle.she.specs.She.{makeAnew};
 use basics::NO_ERROR;
+use basics::to_byte;
 use device::Device;
 use device::Reply;
-
-// ---- wide numbers
-
-// A slot, flags or the length of a MAC as a byte.
-fn to_byte(number: u32) -> u8
-    ensures { λ r. ⌜ r ≡ saturated 255 number ⌝ }
-{
-    if number > 255 { 255 } else { number as u8 }
-}
 
 // A counter as the core takes it.
 fn to_counter(number: u64) -> u32

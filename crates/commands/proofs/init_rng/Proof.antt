@@ -3,12 +3,13 @@
 use Prim.Native.Nat.{ℕ}
 use Rattle.aes.specs.Cipher.{cipher}
 use Rattle.basics.specs.Answers.{sequenceError}
+use Rattle.basics.specs.Marks.{on}
 use Rattle.commands.proofs.Passed.{own-found}
 use Rattle.commands.specs.Commands.{initRng}
 use Rattle.device.specs.Account.{answerBy}
 use Rattle.device.proofs.Account.{is-refused, is-done}
 use Rattle.device.specs.Outcome.{Outcome, outcome}
-use Rattle.device.specs.Record.{on, rngMark, isMarked, setRandom, setMark}
+use Rattle.device.specs.Record.{rngMark, isMarked, setRandom, setMark}
 use Rattle.modes.specs.Compression.{kdf}
 use Rattle.modes.specs.Constants.{constantOf}
 use Rattle.modes.specs.declared.Constant.the-variants.{PrngKey, PrngSeedKey}

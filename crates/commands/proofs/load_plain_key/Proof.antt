@@ -2,10 +2,11 @@
 -- Assumes nothing.
 use Prim.Native.Nat.{ℕ}
 use Rattle.basics.proofs.Bytes.{block-whole}
+use Rattle.basics.specs.Marks.{off, on}
 use Rattle.commands.specs.Commands.{loadPlainKey}
 use Rattle.device.proofs.Account.{is-refused, is-done, made-and-long}
 use Rattle.device.specs.Outcome.{outcome}
-use Rattle.device.specs.Record.{ramKey, off, on, plainMark, setMark, putSlot}
+use Rattle.device.specs.Record.{ramKey, plainMark, setMark, putSlot}
 use Rattle.device.specs.declared.Device.{Device}
 use borrow.Author.Needs.{needs}
 use borrow.Author.Tests.{eqb-true}

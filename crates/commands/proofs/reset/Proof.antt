@@ -1,9 +1,10 @@
 -- `commands::reset` meets its contract.
 -- Assumes nothing.
+use Rattle.basics.specs.Marks.{on}
 use Rattle.commands.specs.Commands.{reset}
 use Rattle.device.proofs.Account.{is-refused, is-done}
 use Rattle.device.specs.Outcome.{outcome}
-use Rattle.device.specs.Record.{ramKey, on, putSlot}
+use Rattle.device.specs.Record.{ramKey, putSlot}
 use Rattle.device.specs.declared.Device.{Device}
 use Rattle.modes.specs.Blocks.{zeroBlock}
 use borrow.Author.Needs.{needs}

@@ -1,9 +1,9 @@
 -- `device::is_empty` meets its contract.
 -- Assumes nothing.
 use Prim.Native.Nat.{ℕ}
-use Rattle.device.specs.Record.{isOn}
 use borrow.Author.Needs.{needs}
 use mathlib.Core.Path.{ap}
+use Rattle.basics.specs.Marks.{isOn}
 use Rattle.device.proofs.is_empty.Statement.{statement}
 use Rattle.device.proofs.is_empty.Tie as tie
 

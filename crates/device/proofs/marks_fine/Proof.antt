@@ -1,7 +1,8 @@
 -- `device::marks_fine` meets its contract: the loop tests mark by mark.
 -- Assumes nothing.
 use Prim.Native.Nat.{_-_, _≤_}
-use Rattle.device.specs.Made.{isMark, marksFine}
+use Rattle.basics.specs.Marks.{isMark}
+use Rattle.device.specs.Made.{marksFine}
 use Rattle.device.specs.Record.{markCount, markAt}
 use Rattle.laws.proofs.Test.{all-none, all-more, all-made}
 use Rattle.laws.specs.All.{all}

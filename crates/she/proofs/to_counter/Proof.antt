@@ -1,10 +1,10 @@
 -- `she::to_counter` meets its contract.
 -- Assumes nothing.
-use Rattle.she.specs.She.{saturated}
 use borrow.Author.Needs.{needs}
 use borrow.Author.Tests.{lt-leb, le-leb}
 use mathlib.Core.Path.{refl}
 use native.Mathlib.Omega.{arith}
+use Rattle.basics.specs.Wide.{saturated}
 use Rattle.she.proofs.to_counter.Statement.{statement}
 use Rattle.she.proofs.to_counter.Tie as tie
 

@@ -1,7 +1,7 @@
 -- `she::verify_mac` meets its contract: a slot too wide is no slot, and a length too wide is too long.
 -- Assumes nothing.
+use Rattle.basics.specs.Wide.{saturated}
 use Rattle.she.proofs.Wide.{wide-slot, wide-length}
-use Rattle.she.specs.She.{saturated}
 use Rattle.aes.specs.Cipher.{cipher}
 use Rattle.modes.specs.Answer.{cmacLengths}
 use Rattle.modes.specs.Cmac.{cmac}

@@ -1,12 +1,12 @@
--- `she::to_byte` meets its contract.
+-- `basics::to_byte` meets its contract.
 -- Assumes nothing.
-use Rattle.she.specs.She.{saturated}
 use borrow.Author.Needs.{needs}
 use borrow.Author.Tests.{lt-leb, le-leb}
 use mathlib.Core.Path.{refl}
 use native.Mathlib.Omega.{arith}
-use Rattle.she.proofs.to_byte.Statement.{statement}
-use Rattle.she.proofs.to_byte.Tie as tie
+use Rattle.basics.specs.Wide.{saturated}
+use Rattle.basics.proofs.to_byte.Statement.{statement}
+use Rattle.basics.proofs.to_byte.Tie as tie
 
 cast-result : tie.Need-cast-result
 cast-result c = search needs
