@@ -3,11 +3,12 @@
 # rustup puts rustc under the home directory.
 export PATH := $(PATH):$(or $(CARGO_HOME),$(HOME)/.cargo)/bin
 
-# A day in the yard: a C program over include/she.h. The library is proved before it is linked.
+# A day in the yard: a C program over include/she.h and include/garage.h. The libraries are proved before they are linked.
 demo:
 	@sh tools/needs.sh gcc:gcc
 	@sh tools/native-archive.sh she
-	@gcc -std=c99 -O2 -Wall -Wextra -Iinclude demo/yard.c target/native/libshe.a -o target/native/yard
+	@sh tools/native-archive.sh garage
+	@gcc -std=c99 -O2 -Wall -Wextra -Iinclude demo/yard.c target/native/libshe.a target/native/libgarage.a -o target/native/yard
 	@target/native/yard
 
 # The gate.

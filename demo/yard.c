@@ -1,9 +1,10 @@
 /* A day in the yard: the museum workshop brings a board to life, gives it its keys, and the board does its work and refuses what is
- * wrong. Everything here goes through include/she.h, as firmware would; the sender's side, the foreman with the key sheets, uses
- * the same library.
+ * wrong. What the boards do goes through include/she.h, as in firmware; the sender's side, the foreman with his books, goes through
+ * include/garage.h.
  *
  * Each step says what was asked, what the board answered, and whether that is as it should be. The program writes the same
  * lines on every machine, and its status is 0 only where nothing was otherwise than it should be. */
+#include "garage.h"
 #include "she.h"
 
 #include <stdio.h>
@@ -44,9 +45,10 @@ static void bytes(const char *name, const uint8_t *data, size_t count)
     printf("\n");
 }
 
-/* ---- the boards, and what the foreman has in his safe */
+/* ---- the boards, and what the foreman has in his safe: a book about each, and the keys that they are to get */
 
 static struct she_device bus_12, bus_7;
+static struct garage_book book_12, book_7;
 
 static const uint8_t uid_12[SHE_UID] = {'b', 'u', 's', ' ', '1', '2', 0, 0, 0, 0, 0, 0, 0, 0, 1};
 static const uint8_t uid_7[SHE_UID] = {'b', 'u', 's', ' ', '7', 0, 0, 0, 0, 0, 0, 0, 0, 0, 2};
@@ -71,11 +73,11 @@ struct receipt {
 
 #define WHOLE(buffer) (buffer), sizeof(buffer)
 
-static uint8_t write_letter(struct letter *out, const uint8_t *uid, uint32_t target, uint32_t authority, const uint8_t *authority_key,
-                            uint64_t counter, uint32_t flags, const uint8_t *key)
+/* The counter is the book's to know. */
+static uint8_t write_letter(struct letter *out, struct garage_book *book, uint32_t target, uint32_t authority, uint32_t flags,
+                            const uint8_t *key)
 {
-    return she_write_key(uid, SHE_UID, target, authority, authority_key, SHE_BLOCK, counter, flags, key, SHE_BLOCK, WHOLE(out->m1),
-                         WHOLE(out->m2), WHOLE(out->m3));
+    return garage_write(book, target, authority, flags, key, SHE_BLOCK, WHOLE(out->m1), WHOLE(out->m2), WHOLE(out->m3));
 }
 
 static uint8_t deliver(struct she_device *board, const struct letter *in, struct receipt *back)
@@ -83,24 +85,27 @@ static uint8_t deliver(struct she_device *board, const struct letter *in, struct
     return she_load_key(board, WHOLE(in->m1), WHOLE(in->m2), WHOLE(in->m3), WHOLE(back->m4), WHOLE(back->m5));
 }
 
-/* What the foreman expects back is written from his own papers; only a board that has the new key can write the same. */
-static int is_proved(const struct receipt *back, const uint8_t *uid, uint32_t target, uint32_t authority, uint64_t counter,
-                     const uint8_t *key)
+/* What the book says of a receipt, 1 or 0. From a yes on it has the new key, with which the next letter may be written. */
+static uint8_t verdict_on(const struct receipt *back, struct garage_book *book, uint32_t target)
 {
-    struct receipt expected;
-    return she_write_proof(uid, SHE_UID, target, authority, counter, key, SHE_BLOCK, WHOLE(expected.m4), WHOLE(expected.m5)) == 0
-           && memcmp(back, &expected, sizeof expected) == 0;
+    uint8_t verdict;
+    return garage_judge(book, target, WHOLE(back->m4), WHOLE(back->m5), &verdict) == SHE_NO_ERROR ? verdict : 0xff;
 }
 
-/* A key is written, delivered, and its receipt compared. */
-static void bring(const char *what, uint32_t target, uint32_t authority, const uint8_t *authority_key, uint64_t counter,
+static void judge(const struct receipt *back, struct garage_book *book, uint32_t target)
+{
+    note("the board's receipt, M4 and M5, is what the book expects", verdict_on(back, book, target) == 1);
+}
+
+/* A key is written, delivered, and its receipt judged. */
+static void bring(const char *what, struct she_device *board, struct garage_book *book, uint32_t target, uint32_t authority,
                   uint32_t flags, const uint8_t *key)
 {
     struct letter letter;
     struct receipt back;
-    write_letter(&letter, uid_12, target, authority, authority_key, counter, flags, key);
-    step(what, deliver(&bus_12, &letter, &back), SHE_NO_ERROR);
-    note("the board's receipt, M4 and M5, is what the foreman expects", is_proved(&back, uid_12, target, authority, counter, key));
+    write_letter(&letter, book, target, authority, flags, key);
+    step(what, deliver(board, &letter, &back), SHE_NO_ERROR);
+    judge(&back, book, target);
 }
 
 /* A letter that must be refused, and nothing may change by it: neither the board nor the paper for the receipt. */
@@ -127,24 +132,58 @@ static void boards_are_made(void)
     note("the status is 0", status == 0);
 }
 
+/* The boards are new, so there is nothing to tell of them but who they are. The counters are counted in numbers. */
+static uint8_t open_book(struct garage_book *book, const uint8_t *uid, she_length uid_len)
+{
+    static const uint8_t no_keys[GARAGE_KEYS], none_held[SHE_SLOTS];
+    static const uint32_t no_counters[GARAGE_COUNTERS];
+    return garage_open(book, uid, uid_len, WHOLE(no_keys), WHOLE(none_held), no_counters, GARAGE_COUNTERS);
+}
+
+static void books_are_opened(void)
+{
+    hour("07:15", "The foreman opens a book about each: its UID, no key yet, and no letter that waits for a receipt.");
+    step("a book about bus 12", open_book(&book_12, WHOLE(uid_12)), SHE_NO_ERROR);
+    step("a book about bus 7", open_book(&book_7, WHOLE(uid_7)), SHE_NO_ERROR);
+}
+
 static struct letter master_letter;
 
 static void keys_come_in(void)
 {
     struct receipt back;
-    hour("07:30", "The foreman's letters: a master key first, and under it the keys for doors and brakes.");
-    write_letter(&master_letter, uid_12, SHE_MASTER_ECU_KEY, SHE_MASTER_ECU_KEY, empty_key, 1, 0, master);
+    hour("07:30", "The foreman's letters: a master key first, and under it the key for the doors.");
+    write_letter(&master_letter, &book_12, SHE_MASTER_ECU_KEY, SHE_MASTER_ECU_KEY, 0, master);
     bytes("M1", WHOLE(master_letter.m1));
     bytes("M2", WHOLE(master_letter.m2));
     bytes("M3", WHOLE(master_letter.m3));
     step("bus 12: take the master key", deliver(&bus_12, &master_letter, &back), SHE_NO_ERROR);
     bytes("M4", WHOLE(back.m4));
     bytes("M5", WHOLE(back.m5));
-    note("the board's receipt, M4 and M5, is what the foreman expects",
-         is_proved(&back, uid_12, SHE_MASTER_ECU_KEY, SHE_MASTER_ECU_KEY, 1, master));
-    bring("bus 12: take the door key, for signing", DOOR_SLOT, SHE_MASTER_ECU_KEY, master, 1, SHE_KEY_USAGE, door);
-    bring("bus 12: take the brake key, locked while a debugger looks", BRAKE_SLOT, SHE_MASTER_ECU_KEY, master, 1,
-          SHE_KEY_USAGE + SHE_DEBUGGER, brake);
+    judge(&back, &book_12, SHE_MASTER_ECU_KEY);
+    bring("bus 7: take the same master key", &bus_7, &book_7, SHE_MASTER_ECU_KEY, SHE_MASTER_ECU_KEY, 0, master);
+    bring("bus 12: take the door key, for signing", &bus_12, &book_12, DOOR_SLOT, SHE_MASTER_ECU_KEY, SHE_KEY_USAGE, door);
+}
+
+static uint8_t write_brake_letter(struct letter *out)
+{
+    return write_letter(out, &book_12, BRAKE_SLOT, SHE_MASTER_ECU_KEY, SHE_KEY_USAGE + SHE_DEBUGGER, brake);
+}
+
+static void letter_is_lost(void)
+{
+    struct letter lost, letter;
+    struct receipt back;
+    hour("08:00", "The brake key has bad luck: its letter doesn't arrive, and its receipt doesn't arrive whole.");
+    step("the book: a letter with the brake key", write_brake_letter(&lost), SHE_NO_ERROR);
+    step("it is lost on the way; the book: the letter anew", write_brake_letter(&letter), SHE_NO_ERROR);
+    note("that is the same letter, byte for byte", memcmp(&lost, &letter, sizeof letter) == 0);
+    step("bus 12: take the brake key, locked while a debugger looks", deliver(&bus_12, &letter, &back), SHE_NO_ERROR);
+    back.m5[7] ^= 1;
+    note("the receipt with one bit changed on the way: the book says no", verdict_on(&back, &book_12, BRAKE_SLOT) == 0);
+    back.m5[7] ^= 1;
+    judge(&back, &book_12, BRAKE_SLOT);
+    note("the same receipt once more: the book says no", verdict_on(&back, &book_12, BRAKE_SLOT) == 0);
 }
 
 static void doors_are_opened(void)
@@ -168,25 +207,34 @@ static void doors_are_opened(void)
 static void wrong_letters(void)
 {
     struct letter letter, untouched;
+    struct garage_book before = book_12;
     hour("11:00", "A slip of the pen: a key for slot 0x11. The old device read that as slot 1, the master key.");
     memset(&letter, 0x55, sizeof letter);
     memset(&untouched, 0x55, sizeof untouched);
-    step("the writer: a letter for slot 0x11 by 0x11",
-         write_letter(&letter, uid_12, 0x11, 0x11, master, 2, 0, new_master), SHE_KEY_INVALID);
-    note("nothing was written", memcmp(&letter, &untouched, sizeof letter) == 0);
+    step("the book: a letter for slot 0x11 by 0x11", write_letter(&letter, &book_12, 0x11, 0x11, 0, new_master), SHE_KEY_INVALID);
+    note("nothing was written, and the book is as it was",
+         memcmp(&letter, &untouched, sizeof letter) == 0 && memcmp(&book_12, &before, sizeof before) == 0);
     step("sign with slot 0x104, which is not slot 4",
          she_generate_mac(&bus_12, 0x104, 128, WHOLE(letter.m1), WHOLE(letter.m3)), SHE_KEY_INVALID);
 
     hour("11:30", "Letters that should not work.");
     turned_away("the morning's master letter, once more", &master_letter, SHE_KEY_UPDATE_ERROR);
-    write_letter(&letter, uid_7, SHE_MASTER_ECU_KEY, SHE_MASTER_ECU_KEY, master, 2, 0, new_master);
+    write_letter(&letter, &book_7, SHE_MASTER_ECU_KEY, SHE_MASTER_ECU_KEY, 0, new_master);
     turned_away("a letter for bus 7, at bus 12", &letter, SHE_KEY_UPDATE_ERROR);
-    write_letter(&letter, uid_12, SHE_MASTER_ECU_KEY, SHE_MASTER_ECU_KEY, master, 2, 0, new_master);
+    write_letter(&letter, &book_12, SHE_MASTER_ECU_KEY, SHE_MASTER_ECU_KEY, 0, new_master);
     letter.m2[20] ^= 1;
     turned_away("a good letter with one bit changed on the way", &letter, SHE_KEY_UPDATE_ERROR);
     letter.m2[20] ^= 1;
     letter.m1[15] = 0x15;
     turned_away("a good letter, readdressed to a pair that is not allowed", &letter, SHE_KEY_INVALID);
+}
+
+/* A letter for every board is in no book, so the foreman compares the receipts himself. */
+static int is_horn_receipt(const struct receipt *back, const uint8_t *uid)
+{
+    struct receipt expected;
+    return she_write_proof(uid, SHE_UID, HORN_SLOT, HORN_SLOT, 1, WHOLE(horn), WHOLE(expected.m4), WHOLE(expected.m5)) == 0
+           && memcmp(back, &expected, sizeof expected) == 0;
 }
 
 static void one_letter_for_all(void)
@@ -195,12 +243,13 @@ static void one_letter_for_all(void)
     struct receipt back;
     hour("13:00", "One letter for the whole fleet: the horn's key.");
     step("the fleet sheet",
-         she_fleet_sheet(HORN_SLOT, HORN_SLOT, WHOLE(empty_key), 1, WHOLE(horn), WHOLE(letter.m1), WHOLE(letter.m2), WHOLE(letter.m3)),
+         she_fleet_sheet(HORN_SLOT, HORN_SLOT, WHOLE(empty_key), 1, WHOLE(horn), WHOLE(letter.m1), WHOLE(letter.m2),
+                         WHOLE(letter.m3)),
          SHE_NO_ERROR);
     step("bus 12 takes it", deliver(&bus_12, &letter, &back), SHE_NO_ERROR);
-    note("and signs for bus 12", is_proved(&back, uid_12, HORN_SLOT, HORN_SLOT, 1, horn));
+    note("and signs for bus 12", is_horn_receipt(&back, uid_12));
     step("bus 7 takes it", deliver(&bus_7, &letter, &back), SHE_NO_ERROR);
-    note("and signs for bus 7", is_proved(&back, uid_7, HORN_SLOT, HORN_SLOT, 1, horn));
+    note("and signs for bus 7", is_horn_receipt(&back, uid_7));
 }
 
 static void random_numbers(void)
@@ -256,8 +305,8 @@ static void boot_key_comes_in(void)
 {
     hour("18:00", "From tonight on, a start with a changed program shall lock the door key. Two letters prepare that.");
     step("bus 12: check your program, before there is a boot key", she_secure_boot(&bus_12, WHOLE(program)), SHE_NO_SECURE_BOOT);
-    bring("bus 12: take the boot key", SHE_BOOT_MAC_KEY, SHE_MASTER_ECU_KEY, master, 1, 0, boot);
-    bring("bus 12: take the door key anew, locked after a bad start", DOOR_SLOT, SHE_MASTER_ECU_KEY, master, 2,
+    bring("bus 12: take the boot key", &bus_12, &book_12, SHE_BOOT_MAC_KEY, SHE_MASTER_ECU_KEY, 0, boot);
+    bring("bus 12: take the door key anew, locked after a bad start", &bus_12, &book_12, DOOR_SLOT, SHE_MASTER_ECU_KEY,
           SHE_KEY_USAGE + SHE_BOOT, door);
 }
 
@@ -315,11 +364,29 @@ static void program_is_put_back(void)
     step("sign with the door key", sign_order(DOOR_SLOT), SHE_NO_ERROR);
 }
 
+/* All keys lie open in a book, so none is left lying about. An opening that is refused wipes it, which no compiler leaves out. */
+static void wipe(const char *asked, struct garage_book *book)
+{
+    struct garage_book blank;
+    memset(&blank, 0, sizeof blank);
+    step(asked, open_book(book, uid_12, 0), SHE_GENERAL_ERROR);
+    note("no byte of it is left", memcmp(book, &blank, sizeof blank) == 0);
+}
+
+static void books_are_put_away(void)
+{
+    hour("21:00", "The books go back into the safe, and what lies on the desk is wiped, by an opening without a UID.");
+    wipe("the book about bus 12", &book_12);
+    wipe("the book about bus 7", &book_7);
+}
+
 int main(void)
 {
     printf("A day in the yard. Each line: what was asked, the answer's number, and what it means.\n");
     boards_are_made();
+    books_are_opened();
     keys_come_in();
+    letter_is_lost();
     doors_are_opened();
     wrong_letters();
     one_letter_for_all();
@@ -331,6 +398,7 @@ int main(void)
     later_stage_fails();
     program_is_changed();
     program_is_put_back();
+    books_are_put_away();
     printf("\nThe day is over; %d things were not as they should be.\n", surprises);
     return surprises == 0 ? 0 : 1;
 }

@@ -247,7 +247,7 @@ uint8_t she_get_status(struct she_device *device, uint8_t *status);
  * no such key. Answers: 2. */
 uint8_t she_get_id(struct she_device *device, const uint8_t *challenge, she_length challenge_len, uint8_t *out, she_length out_len);
 
-/* The record's layout is the library's. */
+/* The record's layout is the library's. garage.h says so of its record by the same word. */
 #if defined(__cplusplus) && __cplusplus >= 201103L
 #define SHE_LAYOUT(what, holds) static_assert(holds, #what)
 #elif defined(__STDC_VERSION__) && __STDC_VERSION__ >= 201112L
@@ -265,7 +265,6 @@ SHE_LAYOUT(seed, offsetof(struct she_device, seed) == 345);
 SHE_LAYOUT(state, offsetof(struct she_device, state) == 361);
 SHE_LAYOUT(rngkey, offsetof(struct she_device, rngkey) == 377);
 SHE_LAYOUT(marks, offsetof(struct she_device, marks) == 393);
-#undef SHE_LAYOUT
 
 #ifdef __cplusplus
 }

@@ -20,35 +20,50 @@ run() { # NAME COMMAND..: passes where the status is 0
     fi
 }
 
-# The header alone, in every language that may include it, and for a controller of 32 bits.
-header() {
-    for language in c99 c11 c17; do
-        echo '#include "she.h"' | gcc -std=$language -Wall -Wextra -Wpedantic -Werror -Iinclude -x c -fsyntax-only - || return 1
+# Each header alone, in every language that may include it, and for a controller of 32 bits.
+headers() {
+    for header in she.h garage.h; do
+        line="#include \"$header\""
+        for language in c99 c11 c17; do
+            echo "$line" | gcc -std=$language -Wall -Wextra -Wpedantic -Werror -Iinclude -x c -fsyntax-only - || return 1
+        done
+        for language in c++98 c++11 c++17; do
+            echo "$line" | g++ -std=$language -Wall -Wextra -Wpedantic -Werror -Iinclude -x c++ -fsyntax-only - || return 1
+        done
+        echo "$line" | clang --target=thumbv7m-none-eabi -ffreestanding -std=c99 -Wall -Wextra -Wpedantic -Werror \
+            -Iinclude -x c -fsyntax-only - || return 1
     done
-    for language in c++98 c++11 c++17; do
-        echo '#include "she.h"' | g++ -std=$language -Wall -Wextra -Wpedantic -Werror -Iinclude -x c++ -fsyntax-only - || return 1
-    done
-    echo '#include "she.h"' | clang --target=thumbv7m-none-eabi -ffreestanding -std=c99 -Wall -Wextra -Wpedantic -Werror \
-        -Iinclude -x c -fsyntax-only - || return 1
-    echo "she.h compiles as C99, C11, C17, C++98, C++11 and C++17, and for a controller of 32 bits"
+    echo "she.h and garage.h compile as C99, C11, C17, C++98, C++11 and C++17, and for a controller of 32 bits"
 }
 
-# The library asks for nothing of the program that it is linked into, but what every compiler may ask for.
+# Each library gives what its header declares and no other name, so that both may be linked into one program, and asks for nothing
+# of that but what every compiler may ask for.
 symbols() {
-    nm -u "$out/libshe.a" | sed -n 's/^ *U //p' | sort -u >"$out/undefined"
+    for library in she garage; do
+        nm -g --defined-only "$out/lib$library.a" | sed -n 's/^[0-9a-f]* [A-Z] //p' | sort >"$out/defined"
+        sed -n "s/^uint8_t \\(${library}_[a-z0-9_]*\\)(.*/\\1/p" "include/$library.h" | sort | diff - "$out/defined" || return 1
+    done
+    nm -u "$out/libshe.a" "$out/libgarage.a" | sed -n 's/^ *U //p' | sort -u >"$out/undefined"
     if grep -v -x -e memcpy -e memset -e memmove -e memcmp -e bcmp "$out/undefined"; then
         return 1
     fi
-    echo "undefined symbols: $(tr '\n' ' ' <"$out/undefined")"
+    echo "the names of both headers and no other; undefined symbols: $(tr '\n' ' ' <"$out/undefined")"
 }
 
-# The README's example is a whole program, and does what it says, as C and as C++.
+# The README's examples are whole programs, and do what they say, as C and as C++.
 readme() {
-    sed -n '/^```c$/,/^```$/p' README.md | grep -v '^```' >"$out/readme.c"
-    gcc -std=c99 -Wall -Wextra -Wpedantic -Werror -Iinclude "$out/readme.c" "$out/libshe.a" -o "$out/readme" || return 1
-    g++ -std=c++11 -Wall -Wextra -Wpedantic -Werror -Iinclude -x c++ "$out/readme.c" -x none "$out/libshe.a" \
-        -o "$out/readme++" || return 1
-    [ "$("$out/readme")" = "$("$out/readme++")" ] && "$out/readme"
+    awk -v out="$out" '
+        /^```c$/ { example = out "/readme-" ++count ".c"; printf "" >example; next }
+        /^```$/ { example = "" }
+        example != "" { print >example }' README.md
+    for program in readme-1 readme-2; do
+        gcc -std=c99 -Wall -Wextra -Wpedantic -Werror -Iinclude "$out/$program.c" "$out/libshe.a" "$out/libgarage.a" \
+            -o "$out/$program" || return 1
+        g++ -std=c++11 -Wall -Wextra -Wpedantic -Werror -Iinclude -x c++ "$out/$program.c" -x none "$out/libshe.a" \
+            "$out/libgarage.a" -o "$out/$program++" || return 1
+        [ "$("$out/$program")" = "$("$out/$program++")" ] || return 1
+        "$out/$program" || return 1
+    done
 }
 
 demo() { # PROGRAM: it writes what it should, line by line
@@ -64,7 +79,7 @@ if setarch "$(uname -m)" -R true 2>/dev/null; then
 fi
 
 run build sh tools/build-c.sh
-run header header
+run headers headers
 run symbols symbols
 run readme readme
 run demo demo $limit "$out/yard"

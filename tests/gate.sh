@@ -59,7 +59,7 @@ part "the pictures, held to what they show" python3 tools/pictures.py --check
 part "the wrong programs and the faults, held to what they edit" python3 tests/wrong/edits.py
 part "the pages, held to the files" python3 tests/pages.py
 part "the twins of the must-fail edits" python3 tests/wrong/shams.py --gate
-part "the library as C has it" sh tests/c.sh
+part "the libraries as C has them" sh tests/c.sh
 part "the proved programs beside the second one" sh tests/lockstep/programs.sh
 
 echo "$passed passed, $failed failed"

@@ -6,7 +6,7 @@ definition that its contract equates the outcome with is the one that the row na
 that of the contract's shape, and there are at least two wrong programs. Every theorem that a table names is in its file. Each row of
 the table of accounts in crate `demands` is what the routine of that call promises to perform, by value and in place, word for word
 and with the arguments in their order, so that a theorem about the calls is one about the code, and about all of it.
-include/she.h declares what crate `she` exports, and nothing else. README.md and ARCHITECTURE.md name every crate, and
+Each header of include/ declares what the crate of its name exports, and nothing else. README.md and ARCHITECTURE.md name every crate, and
 tests/README.md every file that tests something.
 
 Made of the files are, in docs/PROMISES.md, the wrong programs of each routine and of the definitions, from what each says of itself
@@ -243,19 +243,22 @@ def hold_calls(routines):
     return len(rows)
 
 
-def hold_header(routines):
-    """every routine of crate `she` is declared in include/she.h, with as many parameters, and nothing else is"""
-    header = (ROOT / "include" / "she.h").read_text()
-    declared = dict(re.findall(r"^uint8_t (she_\w+)\(([^)]*)\);", header, re.M))
-    exported = {name: head for (crate, name), head in routines.items() if crate == "she"}
-    for name in declared.keys() ^ exported.keys():
-        check(False, f"{name} is in one of she.h and crate she only")
-    for name in declared.keys() & exported.keys():
-        parameters = exported[name].partition(") -> u8")[0]
-        # a slice is a pointer and a length
-        count = len(re.findall(r": ", parameters)) + parameters.count("[u8]")
-        check(count == declared[name].count(",") + 1, f"{name} has another number of parameters in she.h")
-    return len(declared)
+def hold_headers(routines):
+    """include/CRATE.h declares every routine that this crate exports to C, with as many parameters, and nothing else"""
+    found = 0
+    for header in sorted((ROOT / "include").glob("*.h")):
+        crate = header.stem
+        names = re.findall(r'^pub extern "C" fn (\w+)', (CRATES / crate / "src" / "lib.rt").read_text(), re.M)
+        declared = dict(re.findall(r"^uint8_t (\w+)\(([^)]*)\);", header.read_text(), re.M))
+        for name in declared.keys() ^ set(names):
+            check(False, f"{name} is in one of {header.name} and crate {crate} only")
+        for name in declared.keys() & set(names):
+            parameters = routines[crate, name].partition(") -> u8")[0]
+            # a slice is a pointer and a length
+            count = len(re.findall(r": ", parameters)) + len(re.findall(r"\[u\d+\]", parameters))
+            check(count == declared[name].count(",") + 1, f"{name} has another number of parameters in {header.name}")
+        found += len(declared)
+    return found
 
 
 def hold_lists():
@@ -279,10 +282,10 @@ def main():
     hold_lists()
     theorems = hold_theorems()
     calls = hold_calls(routines)
-    declared = hold_header(routines)
+    declared = hold_headers(routines)
     for fault in faults:
         print(f"pages: {fault}")
-    looked = f"{len(routines)} routines, {edits} wrong programs, {theorems} names of theorems, {calls} calls, {declared} in she.h"
+    looked = f"{len(routines)} routines, {edits} wrong programs, {theorems} names of theorems, {calls} calls, {declared} in headers"
     print(f"pages: {looked}, {len(faults)} faults")
     return 1 if faults else 0
 

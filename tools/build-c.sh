@@ -1,11 +1,12 @@
 #!/bin/sh
-# build-c.sh: builds what the tests of the C side run, into target/native/: the library for this machine (proved first), the demo,
-# the second program by itself and as a library, and the comparison of both libraries through include/she.h, also with gcc's
-# checkers in it.
+# build-c.sh: builds what the tests of the C side run, into target/native/: the libraries for this machine (proved first), the demo,
+# the second program by itself and as a library, and the comparison of both through include/she.h and include/garage.h, also with
+# gcc's checkers in it.
 set -eu
 cd "$(dirname "$0")/.."
 out=target/native
 sh tools/native-archive.sh she
+sh tools/native-archive.sh garage
 warnings="-Wall -Wextra -Wpedantic -Werror"
 checkers="-g -O1 -fsanitize=address,undefined -fno-sanitize-recover=all"
 rustc --edition 2021 -O -C panic=abort --crate-type staticlib -D warnings tests/lockstep/second/lib.rs -o "$out/libsecond.a"
@@ -14,10 +15,11 @@ compile() { # PROGRAM FLAGS SOURCE.. : every word of the flags by itself
     program=$1 flags=$2
     shift 2
     # shellcheck disable=SC2086
-    gcc -std=c99 $warnings $flags -Iinclude "$@" "$out/libshe.a" "$out/libsecond.a" -lpthread -ldl -lm -o "$out/$program"
+    gcc -std=c99 $warnings $flags -Iinclude "$@" "$out/libgarage.a" "$out/libshe.a" "$out/libsecond.a" -lpthread -ldl -lm \
+        -o "$out/$program"
 }
 compile yard -O2 demo/yard.c
 compile yard-checked "$checkers" demo/yard.c
 compile lockstep -O2 tests/lockstep/*.c
 compile lockstep-checked "$checkers" tests/lockstep/*.c
-echo "the library, the demo, the second program and the comparison are built"
+echo "the libraries, the demo, the second program and the comparison are built"

@@ -97,10 +97,10 @@ class Picture:
 LIBRARY = {
     "laws": ("no code", ""), "field": ("GF(2^8), S-box", "FIPS 197, 4"), "aes": ("AES-128", "FIPS 197, 5"),
     "basics": ("answers, texts", ""), "modes": ("CBC, CMAC, KDF", "SP 800-38A, B"), "message": ("slots, M1 to M5", "001, 4.9"),
-    "device": ("record and rules", ""), "load": ("LOAD_KEY, export", ""), "commands": ("all others", ""),
-    "boot": ("the boot check", ""), "she": ("what C calls", "include/she.h")}
-BESIDE = {"demands": "theorems", "published": "theorems", "text": "programs", "vectors": "programs", "cases": "programs",
-          "bench": "programs"}
+    "device": ("record and rules", ""), "garage": ("the book", ""), "load": ("LOAD_KEY, export", ""),
+    "commands": ("all others", ""), "boot": ("the boot check", ""), "she": ("what C calls", "include/she.h")}
+BESIDE = {"demands": "theorems", "rounds": "theorems", "published": "theorems", "text": "programs", "vectors": "programs",
+          "cases": "programs", "bench": "programs"}
 # The stations of a load, a row a crate: the step of docs/ARCHITECTURE.md that begins there, `functions` of it, other words.
 STATIONS = {
     "C": ["2 the firmware|lends M1 to M3", "1 the sender|writes M1 to M3", "7 the sender|compares both",

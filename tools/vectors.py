@@ -128,8 +128,8 @@ def computed():
 
 
 def main():
-    header = (ROOT / "include/she.h").read_text()
-    exported = {"holds", "let", *re.findall(r"^uint8_t she_(\w+)\(", header, re.M)}
+    headers = "".join(header.read_text() for header in sorted((ROOT / "include").glob("*.h")))
+    exported = {"holds", "let", *re.findall(r"^uint8_t (?:she_)?(\w+)\(", headers, re.M)}
     published = Published(PUBLISHED.read_text(), exported)
     lines = "\n".join(published.lines()) + "\n" + EDGES.read_text()
     printed = "\n".join(published.answers()) + "\n"

@@ -2,7 +2,7 @@
  *
  * All of them are checked to give the same bytes first. Each time is the best of ROUNDS rounds, and each round measures
  * everything once, so that a slow moment of the machine falls on all alike. Blocks are chained, each the input of the next.
- * The bare engine is called through the crate `bench`, all else as firmware calls it, through she.h.
+ * The bare engine is called through the crate `bench`, all else as firmware and the foreman call it, through she.h and garage.h.
  *
  * BearSSL has no call for one block: its CBC over 64 KiB stands in, which adds an exclusive or of 16 bytes a block. It has no
  * CMAC either, and its CBC-MAC stands in, which leaves out the subkeys, two blocks in 4,096. Key messages are made and opened
@@ -13,6 +13,7 @@
  *
  * --quick measures in few rounds, leaves the stack out, which a sanitizer couldn't follow, and holds no time against its limit.
  */
+#include "garage.h"
 #include "she.h"
 #include <bearssl.h>
 #include <stdint.h>
@@ -26,8 +27,9 @@
 enum { BLOCKS = 4096, MESSAGES = 256, ROUNDS = 100, QUICK_ROUNDS = 2 };
 
 /* What 001, 4.3 allows for a MAC of 128 KiB, in milliseconds; how many hundredths more than the bare cipher SECURE_BOOT may take
- * for a block; and what a command may take besides its cryptography. */
-enum { LONG_MILLISECONDS = 10, BOOT_PERCENT = 5, COMMAND_NANOSECONDS = 1000 };
+ * for a block; how many times as long as without it a message or a proof may take with the book; and what a command may take
+ * besides its cryptography. */
+enum { LONG_MILLISECONDS = 10, BOOT_PERCENT = 5, BOOK_TIMES = 2, COMMAND_NANOSECONDS = 1000 };
 
 void bench_schedule(const uint8_t key[16], uint8_t schedule[176]);
 void bench_encrypt(const uint8_t schedule[176], const uint8_t block[16], uint8_t out[16]);
@@ -251,6 +253,9 @@ static void tom_keyed(void)
 
 static uint8_t messages[64], secret[16], proofs[48];
 
+#define THREE messages, 16, messages + 16, 32, messages + 48, 16
+#define PROOF proofs, 32, proofs + 32, 16
+
 static void our_message(void)
 {
     for (int i = 0; i < MESSAGES; i++) {
@@ -464,7 +469,98 @@ static void our_plain_key(void)
 
 static void our_ecb(void) { chain(ecb_step, key); }
 
-enum { STATUS, RESET, PLAIN_KEY, ECB, COMMANDS };
+/* ---- the book: `book` is the one in use, and goes back to `waiting`, where a message waits for every target, before each
+ * measurement: a fuller one there is not, and the test that it counts as open has most to do */
+
+static struct garage_book book, waiting;
+static uint8_t known_keys[GARAGE_KEYS], held[SHE_SLOTS], waiting_proof[48];
+static uint32_t last_counters[GARAGE_COUNTERS];
+
+#define KNOWN uid, 15, known_keys, GARAGE_KEYS, held, SHE_SLOTS, last_counters, GARAGE_COUNTERS
+
+/* All keys of the bus are known, each the same as MASTER_ECU_KEY, and the last counters, all of them this one. */
+static uint8_t open_book(uint32_t last)
+{
+    for (int slot = 0; slot < SHE_SLOTS; slot++)
+        memcpy(known_keys + 16 * slot, master, 16);
+    memset(held, 1, sizeof held);
+    for (int i = 0; i < GARAGE_COUNTERS; i++)
+        last_counters[i] = last;
+    return garage_open(&book, KNOWN);
+}
+
+static uint8_t write_by_book(uint32_t target, uint32_t authority, uint32_t flags)
+{
+    return garage_write(&book, target, authority, flags, secret, 16, THREE);
+}
+
+static uint8_t write_proof(uint64_t counter)
+{
+    return she_write_proof(uid, 15, SHE_KEY_1, SHE_MASTER_ECU_KEY, counter, secret, 16, PROOF);
+}
+
+/* 0 where the book says yes. */
+static uint8_t judge_by_book(const uint8_t proof[48])
+{
+    uint8_t verdict, number = garage_judge(&book, SHE_KEY_1, proof, 32, proof + 32, 16, &verdict);
+    return number | (verdict ^ 1);
+}
+
+static void make_book(void)
+{
+    refused |= open_book(0);
+    for (uint32_t target = SHE_MASTER_ECU_KEY; target < SHE_RAM_KEY; target++)
+        refused |= write_by_book(target, SHE_MASTER_ECU_KEY, 0);
+    refused |= write_by_book(SHE_RAM_KEY, SHE_SECRET_KEY, 0);
+    waiting = book;
+    refused |= write_proof(1);
+    memcpy(waiting_proof, proofs, sizeof proofs);
+    must_succeed("a book");
+}
+
+static void our_open(void)
+{
+    for (int i = 0; i < BLOCKS; i++)
+        refused |= garage_open(&book, KNOWN);
+}
+
+static void book_write(void)
+{
+    for (int i = 0; i < MESSAGES; i++) {
+        refused |= write_by_book(SHE_KEY_1, SHE_MASTER_ECU_KEY, i % 32);
+        memcpy(secret, messages + 48, 16);
+    }
+}
+
+/* A yes ends the waiting, so each has a book of its own. The copy counts with it. */
+static void book_judge(void)
+{
+    for (int i = 0; i < MESSAGES; i++) {
+        book = waiting;
+        refused |= judge_by_book(waiting_proof);
+    }
+}
+
+static void our_proof(void)
+{
+    for (int i = 0; i < MESSAGES; i++) {
+        refused |= write_proof((uint64_t)i);
+        memcpy(secret, proofs + 32, 16);
+    }
+}
+
+enum { WITH, WITHOUT, WAYS };
+enum { BOOK_WRITE, BOOK_JUDGE, BOOK_CALLS };
+
+static const struct {
+    const char *name;
+    void (*run[WAYS])(void);
+} book_calls[BOOK_CALLS] = {
+    [BOOK_WRITE] = {"`garage_write` beside `she_write_key`", {book_write, our_message}},
+    [BOOK_JUDGE] = {"`garage_judge`, a yes, beside `she_write_proof`", {book_judge, our_proof}},
+};
+
+enum { STATUS, RESET, PLAIN_KEY, ECB, OPEN, COMMANDS };
 
 static const struct {
     const char *name;
@@ -474,6 +570,7 @@ static const struct {
     [RESET] = {"`she_reset`", our_reset},
     [PLAIN_KEY] = {"`she_load_plain_key`", our_plain_key},
     [ECB] = {"`she_enc_ecb`, less schedule and encrypt", our_ecb},
+    [OPEN] = {"`garage_open`", our_open},
 };
 
 /* ---- the same bytes from all */
@@ -614,6 +711,20 @@ static void check_load(const char *what, const struct engine *e, uint32_t counte
     }
 }
 
+/* The book writes what is written without it, and finds that proof right. */
+static void check_book(uint32_t last, uint8_t flags)
+{
+    uint8_t bare[64];
+    refused |= open_book(last);
+    refused |= write_by_book(SHE_KEY_1, SHE_MASTER_ECU_KEY, flags);
+    refused |= she_write_key(uid, 15, SHE_KEY_1, SHE_MASTER_ECU_KEY, master, 16, last + 1, flags, secret, 16, bare, 16, bare + 16,
+                             32, bare + 48, 16);
+    must_agree_all("garage_write", messages, bare, 64);
+    refused |= write_proof(last + 1);
+    refused |= judge_by_book(proofs);
+    must_succeed("a call of the book");
+}
+
 static void check(void)
 {
     uint8_t block[16];
@@ -635,12 +746,13 @@ static void check(void)
         check_load("LOAD_KEY, aes_small", &small_engine, 1 + (uint32_t)rand() % 0xfffffff, i % 32);
         check_load("LOAD_KEY, aes_big", &big_engine, 0xfffffff - (uint32_t)i, i % 32);
         check_load("LOAD_KEY, libtomcrypt", &tom_engine, (uint32_t)i + 1, i % 32);
+        check_book((uint32_t)rand() % 0xfffffff, i % 32);
     }
 }
 
 /* ---- times */
 
-static double best[WORK][WHO], best_command[COMMANDS];
+static double best[WORK][WHO], best_command[COMMANDS], best_book[BOOK_CALLS][WAYS];
 
 static double now(void)
 {
@@ -653,6 +765,7 @@ static double now(void)
 static void measure(int round, const char *name, void (*run)(void), int count, double *least)
 {
     device = fresh;
+    book = waiting;
     double start = now();
     run();
     double took = (now() - start) / count;
@@ -669,6 +782,9 @@ static void measure_all(int rounds)
                 measure(round, work[i].name, work[i].run[who], work[i].count, &best[i][who]);
         for (int i = 0; i < COMMANDS; i++)
             measure(round, commands[i].name, commands[i].run, BLOCKS, &best_command[i]);
+        for (int i = 0; i < BOOK_CALLS; i++)
+            for (int way = 0; way < WAYS; way++)
+                measure(round, book_calls[i].name, book_calls[i].run[way], MESSAGES, &best_book[i][way]);
     }
     best_command[ECB] -= best[KEYED][OURS];
 }
@@ -724,13 +840,24 @@ static void print_commands(void)
         printf("| %s | %.1f | %d |\n", commands[i].name, best_command[i], COMMAND_NANOSECONDS);
 }
 
+static double book_ratio(int i) { return best_book[i][WITH] / best_book[i][WITHOUT]; }
+
+static void print_book(void)
+{
+    printf("\n| nanoseconds | with the book | without | ratio | at most |\n|---|--:|--:|--:|--:|\n");
+    for (int i = 0; i < BOOK_CALLS; i++)
+        printf("| %s | %.1f | %.1f | %.2f | %d |\n", book_calls[i].name, best_book[i][WITH], best_book[i][WITHOUT], book_ratio(i),
+               BOOK_TIMES);
+}
+
 /* ---- stack: each function runs on a stack of its own that is painted before, and looked at after.
  *
  * What counts is the lowest byte that lost its paint, up to a multiple of 16, less the same of a call of a function that does
  * nothing. It is painted twice, in two colours, so that a byte written in the one colour shows in the other. So the figure has
  * the frames of the function and of all that it calls (memcpy too), and the arguments that are passed on the stack. Two things
  * it can't see: what a frame reserves at its lower end and doesn't write, and ways through a function other than the one taken,
- * which is that of success, on long inputs. So SHE_STACK_BYTES has room above it. Another compiler or processor has other frames. */
+ * which is that of success, on long inputs. So SHE_STACK_BYTES and GARAGE_STACK_BYTES have room above it. Another compiler or
+ * processor has other frames. */
 
 enum { STACK = 65536 };
 
@@ -739,9 +866,7 @@ static ucontext_t outside, inside;
 static uint8_t (*on_stack)(void), answer, byte; /* what is called, its answer, and a verdict or a status */
 
 #define BUFFERS text, sizeof text, other_text, sizeof other_text
-#define THREE messages, 16, messages + 16, 32, messages + 48, 16
-#define PROOF proofs, 32, proofs + 32, 16
-#define CALLS(CALL)                                                                                                         \
+#define SHE_CALLS(CALL)                                                                                                     \
     CALL(she_aes_encrypt, fresh, key, 16, text, 16, mac, 16)                                                                \
     CALL(she_aes_decrypt, fresh, key, 16, text, 16, mac, 16)                                                                \
     CALL(she_cbc_encrypt, fresh, key, 16, iv, 16, BUFFERS)                                                                  \
@@ -772,6 +897,10 @@ static uint8_t (*on_stack)(void), answer, byte; /* what is called, its answer, a
     CALL(she_boot_ok, booted, &device)                                                                                      \
     CALL(she_get_status, started, &device, &byte)                                                                           \
     CALL(she_get_id, started, &device, key, 16, proofs, 32)
+#define GARAGE_CALLS(CALL)                                                                                                  \
+    CALL(garage_open, fresh, &book, KNOWN)                                                                                  \
+    CALL(garage_write, fresh, &book, SHE_KEY_1, SHE_MASTER_ECU_KEY, SHE_ALL_FLAGS, key, 16, THREE)                          \
+    CALL(garage_judge, fresh, &book, SHE_KEY_1, waiting_proof, 32, waiting_proof + 32, 16, &byte)
 
 /* What follows the call keeps the compiler from jumping to the function, so that all have the same small frame above. */
 #define DEFINE(function, from, ...)         \
@@ -781,14 +910,16 @@ static uint8_t (*on_stack)(void), answer, byte; /* what is called, its answer, a
         __asm__ volatile("" : "+r"(a));     \
         return a;                           \
     }
-CALLS(DEFINE)
+SHE_CALLS(DEFINE)
+GARAGE_CALLS(DEFINE)
 
 #define NAME(function, from, ...) {#function, call_##function, &from},
-static const struct {
+#define LAST {NULL, NULL, NULL}
+static const struct call {
     const char *name;
     uint8_t (*run)(void);
     const struct she_device *from; /* the device that it needs */
-} calls[] = {CALLS(NAME)};
+} she_calls[] = {SHE_CALLS(NAME) LAST}, garage_calls[] = {GARAGE_CALLS(NAME) LAST};
 
 static __attribute__((noinline)) uint8_t nothing(void)
 {
@@ -803,6 +934,7 @@ static size_t touched(uint8_t (*run)(void), const struct she_device *from, uint8
 {
     size_t untouched = 0;
     device = *from;
+    book = waiting;
     memset(stack, paint, sizeof stack);
     getcontext(&inside);
     inside.uc_stack.ss_sp = stack;
@@ -821,30 +953,33 @@ static size_t touched(uint8_t (*run)(void), const struct she_device *from, uint8
 static size_t depth(const char *name, uint8_t (*run)(void), const struct she_device *from)
 {
     device = *from;
+    book = waiting;
     refused |= run();
     size_t one = touched(run, from, 0xa5), other = touched(run, from, 0x5a);
     must_succeed(name);
     return one > other ? one : other;
 }
 
-/* Prints all, and gives the most. */
-static size_t print_stack(void)
+/* The calls of a library against the room that its header asks for. Says whether one goes deeper. */
+static int print_stack(const struct call *calls, const char *room, size_t allowed)
 {
     size_t empty = depth("an empty call", call_nothing, &fresh), most = 0;
     printf("\n| stack | bytes |\n|---|--:|\n");
-    for (size_t i = 0; i < sizeof calls / sizeof calls[0]; i++) {
-        size_t bytes = depth(calls[i].name, calls[i].run, calls[i].from) - empty;
-        printf("| `%s` | %zu |\n", calls[i].name, bytes);
+    for (const struct call *call = calls; call->name != NULL; call++) {
+        size_t bytes = depth(call->name, call->run, call->from) - empty;
+        printf("| `%s` | %zu |\n", call->name, bytes);
         if (bytes > most)
             most = bytes;
     }
     printf("| the most of all | %zu |\n", most);
-    printf("| `SHE_STACK_BYTES` of she.h | %d |\n", SHE_STACK_BYTES);
-    return most;
+    printf("| %s | %zu |\n", room, allowed);
+    if (most > allowed)
+        fprintf(stderr, "bench: the stack goes deeper than %s\n", room);
+    return most > allowed;
 }
 
 /* Whether what was measured keeps what is promised. */
-static int judge(size_t most)
+static int judge(void)
 {
     int wrong = 0;
     for (int i = 0; i < COMMANDS; i++)
@@ -855,8 +990,9 @@ static int judge(size_t most)
             wrong = fprintf(stderr, "bench: %s takes %d ms or more\n", work[i].name, LONG_MILLISECONDS);
     if (boot_ratio() > 1 + BOOT_PERCENT / 100.0)
         wrong = fprintf(stderr, "bench: SECURE_BOOT takes over %d %% more for a block than the bare cipher\n", BOOT_PERCENT);
-    if (most > SHE_STACK_BYTES)
-        wrong = fprintf(stderr, "bench: the stack goes deeper than SHE_STACK_BYTES\n");
+    for (int i = 0; i < BOOK_CALLS; i++)
+        if (book_ratio(i) > BOOK_TIMES)
+            wrong = fprintf(stderr, "bench: %s takes over %d times as long\n", book_calls[i].name, BOOK_TIMES);
     return wrong != 0;
 }
 
@@ -866,14 +1002,18 @@ int main(int arguments, char **argument)
     check();
     make_keys();
     make_devices();
+    make_book();
     write_row();
     measure_all(rounds);
     print_work(rounds);
     print_long();
     print_overhead();
     print_commands();
+    print_book();
     if (quick)
         return 0;
     refused |= she_cmac(master, 16, 8 * sizeof text, text, sizeof text, text_mac, 16); /* for she_verify_mac to find right */
-    return judge(print_stack());
+    int deep = print_stack(she_calls, "`SHE_STACK_BYTES` of she.h", SHE_STACK_BYTES);
+    deep |= print_stack(garage_calls, "`GARAGE_STACK_BYTES` of garage.h", GARAGE_STACK_BYTES);
+    return judge() | deep;
 }

@@ -1,13 +1,14 @@
 #!/bin/sh
 # Measures ours beside BearSSL's and libtomcrypt's, built for this machine, in one run: times, stack and size. Stdout is Markdown,
-# for docs/PERFORMANCE.md as it is. Fails where the program does, and where the library needs more than it may.
+# for docs/PERFORMANCE.md as it is. Fails where the program does, and where a library needs more than it may.
 set -eu
 cd "$(dirname "$0")/../.."
-sh tools/native-archive.sh bench >&2
-sh tools/native-archive.sh she >&2
-library=target/native/libshe.a
-tables=target/native/bench.md
-gcc -O2 -Wall -Wextra -Werror -Iinclude -o target/native/bench tests/bench/bench.c target/native/libbench.a "$library" \
+for crate in bench she garage; do
+    sh tools/native-archive.sh $crate >&2
+done
+out=target/native
+tables=$out/bench.md
+gcc -O2 -Wall -Wextra -Werror -Iinclude -o $out/bench tests/bench/bench.c $out/libbench.a $out/libshe.a $out/libgarage.a \
     -lbearssl -ltomcrypt
 
 fail() {
@@ -28,30 +29,34 @@ echo "$(date +%Y-%m-%d), $processor, $(uname -m), gcc $(gcc -dumpfullversion), $
 echo
 
 status=0
-target/native/bench >"$tables" || status=$?
+$out/bench >"$tables" || status=$?
 cat "$tables"
 [ "$status" = 0 ] || exit "$status"
 
-# No function of the library is left out of the stack's table.
-for function in $(nm -g --defined-only "$library" | awk '$2 == "T" { print $3 }'); do
-    grep -q "^| \`$function\` | [0-9]* |\$" "$tables" || fail "the stack of $function is not measured"
-done
+size_of() { # LIBRARY: its size, and what it leaves to the program; no function of it is left out of the stack's table
+    archive=$out/$1
+    for function in $(nm -g --defined-only "$archive" | awk '$2 == "T" { print $3 }'); do
+        grep -q "^| \`$function\` | [0-9]* |\$" "$tables" || fail "the stack of $function is not measured"
+    done
+    echo
+    echo "| \`$1\`, built for this processor | bytes |"
+    echo '|---|--:|'
+    size -A "$archive" | awk '
+        /^\.text/ { text += $(NF - 1) }
+        /^\.rodata/ { rodata += $(NF - 1) }
+        /^\.data/ { data += $(NF - 1) }
+        /^\.bss/ { bss += $(NF - 1) }
+        END { printf "| text | %d |\n| rodata | %d |\n| data | %d |\n| bss | %d |\n", text, rodata, data, bss }'
+    calls=$(nm -u "$archive" | awk 'NF == 2 { print $2 }' | sort -u | paste -s -d ' ' -)
+    echo
+    echo "Symbols that \`$1\` leaves to the program: $calls"
+    for call in $calls; do
+        case $call in
+        memcpy | memset | memmove | memcmp | bcmp) ;;
+        *) fail "$1 may not call $call" ;;
+        esac
+    done
+}
 
-calls=$(nm -u "$library" | awk 'NF == 2 { print $2 }' | sort -u | paste -s -d ' ' -)
-echo
-echo "| \`libshe.a\`, built for this processor | bytes |"
-echo '|---|--:|'
-size -A "$library" | awk '
-    /^\.text/ { text += $(NF - 1) }
-    /^\.rodata/ { rodata += $(NF - 1) }
-    /^\.data/ { data += $(NF - 1) }
-    /^\.bss/ { bss += $(NF - 1) }
-    END { printf "| text | %d |\n| rodata | %d |\n| data | %d |\n| bss | %d |\n", text, rodata, data, bss }'
-echo
-echo "Symbols that \`libshe.a\` leaves to the program: $calls"
-for call in $calls; do
-    case $call in
-    memcpy | memset | memmove | memcmp | bcmp) ;;
-    *) fail "the library may not call $call" ;;
-    esac
-done
+size_of libshe.a
+size_of libgarage.a

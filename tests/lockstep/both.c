@@ -14,7 +14,8 @@ static uint8_t storage[MAX_BUFFERS][LARGEST];
 static uint8_t stored_byte;
 
 static void point_into_storage(struct call *c) {
-    c->piece[THE_RECORD] = (struct piece){(uint8_t *)&c->device, sizeof c->device};
+    struct piece device = {(uint8_t *)&c->device, sizeof c->device}, book = {(uint8_t *)&c->book, sizeof c->book};
+    c->piece[THE_RECORD] = c->function->record == A_DEVICE ? device : book;
     c->piece[THE_BYTE] = (struct piece){&stored_byte, 1};
     for (size_t i = 0; i < MAX_BUFFERS; i++) c->piece[BUFFERS + i] = (struct piece){storage[i], c->function->buffers[i].length};
 }
@@ -27,17 +28,23 @@ void blank_call(struct call *c, const struct function *f) {
 
 void set_length(struct call *c, size_t buffer, she_length length) { c->piece[BUFFERS + buffer].length = length; }
 
+int has_right_lengths(const struct call *c) {
+    for (size_t i = 0; i < buffer_count(c->function); i++)
+        if (c->piece[BUFFERS + i].length != c->function->buffers[i].length) return 0;
+    return 1;
+}
+
 static size_t piece_count(const struct call *c) { return BUFFERS + buffer_count(c->function); }
 
 static const char *piece_name(const struct call *c, size_t piece) {
-    if (piece == THE_RECORD) return "the device";
+    if (piece == THE_RECORD) return c->function->record == A_DEVICE ? "the device" : "the book";
     if (piece == THE_BYTE) return "the verdict or status";
     return c->function->buffers[piece - BUFFERS].name;
 }
 
 /* ---- lending: the pieces lie in one arena with guard bytes between them, or each in memory of its very length */
 
-enum { GUARD = 24, ARENA = sizeof(struct she_device) + 1 + 2 * LARGEST + 4 * 64 + (PIECES + 1) * (GUARD + 8) };
+enum { GUARD = 24, ARENA = sizeof(struct bus) + 1 + 2 * LARGEST + 4 * 64 + (PIECES + 1) * (GUARD + 8) };
 
 struct side {
     const char *name;
@@ -61,17 +68,27 @@ static uint8_t *exact_memory(size_t length) {
     return memory || length ? must(memory) : must(malloc(1));
 }
 
-/* The first guard ends where the record begins, at a multiple of 8. */
+/* The first guard ends where the record begins, at a multiple of 8; one before numbers is as much longer as these need. */
+static size_t place_after(const struct call *c, size_t piece, size_t at) {
+    size_t unit = piece < BUFFERS ? 1 : c->function->buffers[piece - BUFFERS].unit;
+    return (at + GUARD + unit - 1) / unit * unit;
+}
+
+static size_t put_guard(struct side *s, size_t from, size_t to) {
+    for (size_t at = from; at < to; at++) s->arena[at] = guard_byte(at);
+    return to;
+}
+
 static void lend_from_arena(struct side *s, const struct call *c) {
-    size_t at = GUARD;
+    size_t at = 0;
     if (!s->arena) s->arena = must(malloc(ARENA));
-    for (size_t g = 0; g < GUARD; g++) s->arena[g] = guard_byte(g);
     for (size_t i = 0; i < piece_count(c); i++) {
+        at = put_guard(s, at, place_after(c, i, at));
         s->lent.piece[i].bytes = s->arena + at;
         at += c->piece[i].length;
-        if (at + GUARD > ARENA) must(NULL);
-        for (size_t g = 0; g < GUARD; g++, at++) s->arena[at] = guard_byte(at);
+        if (at + GUARD + 8 > ARENA) must(NULL);
     }
+    put_guard(s, at, at + GUARD);
 }
 
 static void lend(struct side *s, const struct call *c) {
@@ -93,18 +110,18 @@ static void take_back(struct side *s, const struct call *c) {
 /* ---- telling of a difference */
 
 static void print_hex(const uint8_t *bytes, size_t length) {
-    enum { SHOWN = SHE_DEVICE_BYTES };
+    enum { SHOWN = GARAGE_BOOK_BYTES };
     for (size_t i = 0; i < length && i < SHOWN; i++) printf("%02x", bytes[i]);
     if (length > SHOWN) printf("...");
     printf(" (%zu bytes)\n", length);
 }
 
-static void print_call(const struct call *c) {
+static void print_call(const struct call *c, const char *when) {
     printf("%s\n", c->function->name);
     for (size_t i = 0; c->function->numbers[i] != NO_NUMBER; i++)
         printf("  %s = %" PRIu64 " (0x%" PRIx64 ")\n", number_name(c->function->numbers[i]), c->number[i], c->number[i]);
     for (size_t i = 0; i < piece_count(c); i++) {
-        printf("  %s before: ", piece_name(c, i));
+        printf("  %s %s: ", piece_name(c, i), when);
         print_hex(c->piece[i].bytes, c->piece[i].length);
     }
 }
@@ -126,8 +143,14 @@ struct verdict {
 static void fail(const struct verdict *v, const char *what) {
     printf("DIFFERENCE: %s\n%s\n", v->where, what);
     printf("answers: first %u, second %u\n", v->answer[0], v->answer[1]);
-    print_call(v->call);
+    print_call(v->call, "before");
     print_after(v->call);
+    exit(1);
+}
+
+void fail_alike(const struct call *after, const char *where, const char *what) {
+    printf("WRONG, BY BOTH ALIKE: %s\n%s\n", where, what);
+    print_call(after, "after");
     exit(1);
 }
 
@@ -157,11 +180,12 @@ static void compare_sides(const struct verdict *v) {
 }
 
 static void compare_guards(const struct verdict *v, const struct side *s) {
-    size_t at = 0;
-    for (size_t i = 0; i <= piece_count(v->call); i++) {
-        for (size_t g = 0; g < GUARD; g++, at++)
-            if (s->arena[at] != guard_byte(at)) fail_at(v, "a byte was written beyond", i ? i - 1 : i, g);
-        if (i < piece_count(v->call)) at += v->call->piece[i].length;
+    size_t count = piece_count(v->call), at = 0;
+    for (size_t i = 0; i <= count; i++) {
+        size_t from = at, to = i < count ? (size_t)(s->lent.piece[i].bytes - s->arena) : at + GUARD;
+        for (; at < to; at++)
+            if (s->arena[at] != guard_byte(at)) fail_at(v, "a byte was written beyond", i ? i - 1 : i, at - from);
+        if (i < count) at += v->call->piece[i].length;
     }
 }
 
@@ -172,11 +196,17 @@ static int must_stay(const struct call *c, size_t piece, uint8_t answer) {
     return answer != SHE_NO_ERROR || !c->function->buffers[piece - BUFFERS].is_written;
 }
 
+/* What must stand there where something must: what stood there before, and after a refused opening nothing. */
+static const uint8_t *due(const struct call *c, size_t piece) {
+    static const uint8_t blank[sizeof(struct garage_book)];
+    return piece == THE_RECORD && c->function->record == NEW_BOOK ? blank : c->piece[piece].bytes;
+}
+
 static void compare_with_before(const struct verdict *v, const struct side *s, uint8_t answer) {
     for (size_t i = 0; i < piece_count(v->call); i++) {
         size_t length = v->call->piece[i].length;
-        size_t at = agreement(s->lent.piece[i].bytes, v->call->piece[i].bytes, length);
-        if (must_stay(v->call, i, answer) && at < length) fail_at(v, "something changed that must not", i, at);
+        size_t at = agreement(s->lent.piece[i].bytes, due(v->call, i), length);
+        if (must_stay(v->call, i, answer) && at < length) fail_at(v, "something is not as it must be", i, at);
     }
     if (v->call->function->has_byte && answer != SHE_NO_ERROR && *s->lent.piece[THE_BYTE].bytes)
         fail(v, "the verdict or status beside a refusal isn't 0");

@@ -10,54 +10,6 @@ extern __typeof__(she_cbc_encrypt) second_cbc_encrypt;
 extern __typeof__(she_cmac) second_cmac;
 extern __typeof__(she_secure_boot) second_secure_boot;
 
-#define LENGTH(array) (sizeof(array) / sizeof *(array))
-
-/* ---- random numbers: xoshiro256**, seeded through splitmix64 */
-
-static uint64_t random_state[4];
-
-static uint64_t splitmix(uint64_t *x) {
-    uint64_t z = *x += 0x9E3779B97F4A7C15u;
-    z = (z ^ z >> 30) * 0xBF58476D1CE4E5B9u;
-    z = (z ^ z >> 27) * 0x94D049BB133111EBu;
-    return z ^ z >> 31;
-}
-
-static void seed_random(uint64_t seed, uint64_t number) {
-    uint64_t x = seed;
-    x = splitmix(&x) ^ number;
-    for (size_t i = 0; i < 4; i++) random_state[i] = splitmix(&x);
-}
-
-static uint64_t rotate(uint64_t x, int by) { return x << by | x >> (64 - by); }
-
-static uint64_t draw(void) {
-    uint64_t *s = random_state, drawn = rotate(s[1] * 5, 7) * 9, t = s[1] << 17;
-    s[2] ^= s[0];
-    s[3] ^= s[1];
-    s[1] ^= s[2];
-    s[0] ^= s[3];
-    s[2] ^= t;
-    s[3] = rotate(s[3], 45);
-    return drawn;
-}
-
-/* No expression may draw twice in an order that C leaves open: the same seed must give the same run everywhere. */
-static uint64_t below(uint64_t n) { return draw() % n; }
-static int one_in(uint64_t n) { return below(n) == 0; }
-
-static void fill(uint8_t *bytes, size_t length) {
-    for (size_t i = 0; i < length; i += 8) {
-        uint64_t drawn = draw();
-        for (size_t k = i; k < length && k < i + 8; k++, drawn >>= 8) bytes[k] = (uint8_t)drawn;
-    }
-}
-
-void flip_bit(uint8_t *bytes, size_t bit) { bytes[bit / 8] ^= (uint8_t)(0x80 >> bit % 8); }
-static void flip_any_bit(uint8_t *bytes, size_t length) { flip_bit(bytes, below(8 * length)); }
-
-#define ONE_OF(array) (array)[below(LENGTH(array))]
-
 /* ---- numbers: mostly such as have a meaning, now and then too wide for their place */
 
 static uint64_t draw_wide_slot(void) {
@@ -107,7 +59,7 @@ static uint64_t draw_wide_counter(void) {
     return ONE_OF(wide);
 }
 
-static uint64_t draw_wide_flags(void) {
+uint64_t draw_wide_flags(void) {
     static const uint64_t wide[] = {32, 0x103, 0xFFFFFFFF, 64, 128, 255, 0x80000000};
     return one_in(3) ? 0x100 + below(32) : ONE_OF(wide);
 }
@@ -157,13 +109,13 @@ static void draw_key(const struct she_device *d, uint32_t slot, uint8_t *key) {
 }
 
 /* WRITE ends all that can happen to a slot, so it is drawn less often. */
-static uint8_t draw_flags(void) {
+uint8_t draw_flags(void) {
     uint8_t flags = (uint8_t)below(32);
     if (one_in(3)) return 0;
     return one_in(6) ? flags : flags & (uint8_t)~SHE_WRITE;
 }
 
-static uint32_t draw_stored_counter(void) {
+uint32_t draw_stored_counter(void) {
     static const uint32_t ends[] = {0, 1, 2, 5, SHE_MAX_COUNTER, SHE_MAX_COUNTER - 1, SHE_MAX_COUNTER - 3};
     return one_in(3) ? (uint32_t)below(SHE_MAX_COUNTER) : ONE_OF(ends);
 }
@@ -201,7 +153,7 @@ void rich_record(struct she_device *d) {
 }
 
 /* A byte that is no mark, or the other mark. */
-static uint8_t spoiled_mark(uint8_t mark) {
+uint8_t spoiled_mark(uint8_t mark) {
     static const uint8_t none[] = {2, 3, 128, 254, 255};
     return one_in(3) ? (uint8_t)!mark : ONE_OF(none);
 }
@@ -229,6 +181,7 @@ static void spoiled_record(struct she_device *d) {
 }
 
 static int is_short;
+static int has_book;     /* otherwise the sequence is the board's alone */
 static const char *next; /* the function that is called next, or NULL for any */
 
 /* Making comes as the first call, to a record that may have held anything. */
@@ -244,6 +197,18 @@ static void draw_record(struct she_device *d) {
     else fill((uint8_t *)d, sizeof *d);
 }
 
+/* A board as firmware has it, and a book about it. Opening comes as the first call to one that may be anything, and judging to one
+ * that is spoiled: before anything else happens to it. */
+static void draw_bus(struct bus *b) {
+    uint64_t kind = below(100);
+    is_short = kind >= 65;
+    next = kind < 15 ? "garage_open" : is_short ? "garage_judge" : NULL;
+    (one_in(3) ? make_record : rich_record)(&b->device);
+    if (kind < 10 || kind >= 98) fill((uint8_t *)&b->book, sizeof b->book);
+    else if (kind < 15 || kind >= 96) memset(&b->book, 0, sizeof b->book);
+    else (kind < 35 ? open_book : kind < 65 ? rich_book : spoiled_book)(&b->book, &b->device);
+}
+
 /* ---- key messages */
 
 static struct message remembered[16];
@@ -257,12 +222,12 @@ static void remember_message(const uint8_t *m1, const uint8_t *m2, const uint8_t
 }
 
 /* A few slots are drawn more often, so that the same one is loaded again and again. */
-static uint32_t draw_target(void) {
+uint32_t draw_target(void) {
     static const uint32_t often[] = {1, 1, 2, 3, 4, 4, 5, 14, 14};
     return one_in(3) ? 1 + (uint32_t)below(14) : ONE_OF(often);
 }
 
-static uint32_t draw_authority(uint32_t target) {
+uint32_t draw_authority(uint32_t target) {
     if (target == SHE_RAM_KEY) return one_in(2) ? 0 : SHE_KEY_1 + (uint32_t)below(10);
     if (target == SHE_BOOT_MAC) return 1 + (uint32_t)below(2);
     return one_in(2) ? SHE_MASTER_ECU_KEY : target;
@@ -364,7 +329,7 @@ static void damage_message(struct message *m) {
 
 /* ---- lengths and buffers */
 
-static uint8_t *bytes_of(struct call *c, const char *name) {
+uint8_t *bytes_of(struct call *c, const char *name) {
     for (size_t i = 0; i < buffer_count(c->function); i++)
         if (!strcmp(c->function->buffers[i].name, name)) return c->piece[BUFFERS + i].bytes;
     return NULL;
@@ -380,11 +345,11 @@ static void set_open_lengths(struct call *c, she_length length) {
         if (!c->function->buffers[i].length) set_length(c, i, length);
 }
 
-static void fill_buffers(struct call *c) {
+void fill_buffers(struct call *c) {
     for (size_t i = 0; i < buffer_count(c->function); i++) fill(c->piece[BUFFERS + i].bytes, c->piece[BUFFERS + i].length);
 }
 
-static uint64_t *number_of(struct call *c, enum number_kind kind) {
+uint64_t *number_in(struct call *c, enum number_kind kind) {
     size_t i = 0;
     while (c->function->numbers[i] != kind) i++;
     return &c->number[i];
@@ -395,7 +360,7 @@ static void draw_number(struct call *c, size_t i) {
     case SLOT: c->number[i] = draw_slot(&c->device); break;
     case BITS: c->number[i] = draw_bits(); break;
     case MAC_BITS: c->number[i] = draw_mac_bits(); break;
-    default: break; /* those of the writers come from a plan */
+    default: break; /* those of the writers and of the book are drawn together */
     }
 }
 
@@ -420,7 +385,7 @@ static she_length message_length(uint64_t bits) {
 }
 
 void draw_mac(struct call *c) {
-    set_open_lengths(c, message_length(*number_of(c, BITS)));
+    set_open_lengths(c, message_length(*number_in(c, BITS)));
     fill_buffers(c);
 }
 
@@ -435,13 +400,13 @@ static void spoil_mac(struct call *c, uint8_t *mac, uint64_t mac_bits) {
 }
 
 void draw_verify(struct call *c) {
-    uint64_t slot = *number_of(c, SLOT), bits = *number_of(c, BITS);
+    uint64_t slot = *number_in(c, SLOT), bits = *number_in(c, BITS);
     const struct piece *message = &c->piece[BUFFERS];
     uint8_t mac[16];
     draw_mac(c);
     if (slot >= SHE_SLOTS || one_in(10)) return;
     if (second_cmac(c->device.keys + 16 * slot, 16, bits, message->bytes, message->length, mac, 16) != SHE_NO_ERROR) return;
-    if (below(3)) spoil_mac(c, mac, *number_of(c, MAC_BITS));
+    if (below(3)) spoil_mac(c, mac, *number_in(c, MAC_BITS));
     put(c, "mac", mac, sizeof mac);
 }
 
@@ -468,10 +433,10 @@ void draw_writer(struct call *c) {
     struct plan p;
     fill_buffers(c);
     plan_message(&p, &c->device);
-    *number_of(c, TARGET) = one_in(16) ? draw_wide_slot() : p.target;
-    *number_of(c, AUTHORITY) = one_in(16) ? draw_wide_slot() : p.authority;
-    *number_of(c, COUNTER) = one_in(12) ? draw_wide_counter() : p.counter;
-    if (!strcmp(c->function->name, "write_key")) *number_of(c, FLAGS) = one_in(12) ? draw_wide_flags() : p.flags;
+    *number_in(c, TARGET) = one_in(16) ? draw_wide_slot() : p.target;
+    *number_in(c, AUTHORITY) = one_in(16) ? draw_wide_slot() : p.authority;
+    *number_in(c, COUNTER) = one_in(12) ? draw_wide_counter() : p.counter;
+    if (!strcmp(c->function->name, "write_key")) *number_in(c, FLAGS) = one_in(12) ? draw_wide_flags() : p.flags;
     put(c, "uid", p.uid, sizeof p.uid);
     put(c, "authority_key", p.key, sizeof p.key);
     put(c, "new_key", p.new_key, sizeof p.new_key);
@@ -483,10 +448,19 @@ void put_message(struct call *c, const struct message *m) {
     put(c, "m3", m->m3, sizeof m->m3);
 }
 
+/* One that the book wrote, mostly the last. */
+static int draw_letter(struct message *m) {
+    const struct message *letter = letter_to(one_in(4) ? (uint32_t)below(SHE_SLOTS) : latest_target());
+    if (letter) *m = *letter;
+    return letter != NULL;
+}
+
 void draw_load(struct call *c) {
     struct message m;
     fill_buffers(c);
-    if (remembered_count && one_in(6)) {
+    if (has_book && below(5) && draw_letter(&m)) {
+        c->traits = 0;
+    } else if (remembered_count && one_in(6)) {
         m = remembered[below(remembered_count < LENGTH(remembered) ? remembered_count : LENGTH(remembered))];
         c->traits = REPLAYED;
     } else {
@@ -506,54 +480,62 @@ void draw_load(struct call *c) {
 
 static void spoil_length(struct call *c) {
     static const she_length others[] = {0, 1, 15, 16, 17, 31, 32, 33, 48, 64};
-    size_t count = buffer_count(c->function), i = count ? below(count) : 0;
+    size_t count = buffer_count(c->function), i = count ? below(count) : 0, unit = c->function->buffers[i].unit;
     struct piece *p = &c->piece[BUFFERS + i];
-    she_length was = p->length, now = ONE_OF(others);
+    she_length was = p->length, now = ONE_OF(others) * unit;
     if (!count) return;
-    if (one_in(2)) now = was && one_in(2) ? was - 1 : was + 1;
+    if (one_in(2)) now = was && one_in(2) ? was - unit : was + unit;
     if (now > LARGEST) return;
     if (now > was) fill(p->bytes + was, now - was);
     p->length = now;
 }
 
+static unsigned weight_of(const struct function *f) { return f->record == A_DEVICE || has_book ? f->weight : 0; }
+
 static const struct function *draw_function(void) {
     uint64_t sum = 0, drawn;
-    for (size_t i = 0; i < function_count; i++) sum += functions[i].weight;
+    for (size_t i = 0; i < function_count; i++) sum += weight_of(&functions[i]);
     drawn = below(sum);
     for (size_t i = 0;; i++) {
-        if (drawn < functions[i].weight) return &functions[i];
-        drawn -= functions[i].weight;
+        if (drawn < weight_of(&functions[i])) return &functions[i];
+        drawn -= weight_of(&functions[i]);
     }
 }
 
-/* What firmware calls then: it boots after a reset, and says how the later stages went. */
+/* What is called then: firmware boots after a reset, and says how the later stages went; a message that the foreman writes is
+ * mostly carried to the board, and the proof to him. */
 static const char *draw_next(const char *name) {
     static const char *const ends[] = {"boot_failure", "boot_ok"};
     if (!strcmp(name, "reset") && one_in(2)) return "secure_boot";
     if (!strcmp(name, "secure_boot") && one_in(3)) return ONE_OF(ends);
+    if (!strcmp(name, "garage_write") && below(4)) return "load_key";
+    if (!strcmp(name, "load_key") && has_book && below(4)) return "garage_judge";
     return NULL;
 }
 
-void begin_sequence(uint64_t seed, uint64_t sequence, struct she_device *device) {
+void begin_sequence(uint64_t seed, uint64_t sequence, struct bus *bus) {
     begin_board(seed, sequence);
     remembered_count = 0;
-    memset(device, 0, sizeof *device);
-    draw_record(device);
+    clear_bus();
+    memset(bus, 0, sizeof *bus);
+    has_book = one_in(3);
+    has_book ? draw_bus(bus) : draw_record(&bus->device);
 }
 
-/* On a record that isn't made nearly all is refused alike, so that less is tried. */
+/* On a record that isn't made, or a book that isn't open, nearly all is refused alike, so that less is tried. */
 unsigned draw_call_count(void) { return is_short ? 4 + (unsigned)below(8) : 20 + (unsigned)below(41); }
 
-void prepare_call(struct call *c, const struct function *f, const struct she_device *device, const uint64_t *numbers) {
+void prepare_call(struct call *c, const struct function *f, const struct bus *bus, const uint64_t *numbers) {
     blank_call(c, f);
-    c->device = *device;
+    c->device = bus->device;
+    c->book = bus->book;
     fill(c->piece[THE_BYTE].bytes, 1);
     for (size_t i = 0; f->numbers[i] != NO_NUMBER; i++) numbers ? (void)(c->number[i] = numbers[i]) : draw_number(c, i);
     f->draw(c);
 }
 
-void draw_call(struct call *c, const struct she_device *device) {
-    prepare_call(c, next ? function_named(next) : draw_function(), device, NULL);
+void draw_call(struct call *c, const struct bus *bus) {
+    prepare_call(c, next ? function_named(next) : draw_function(), bus, NULL);
     if (one_in(14)) spoil_length(c);
     next = draw_next(c->function->name);
 }

@@ -24,20 +24,22 @@ struct options {
 };
 
 static void run_sequence(uint64_t seed, uint64_t sequence) {
-    struct she_device device;
+    static struct bus bus;
     static struct call c;
     unsigned count;
-    begin_sequence(seed, sequence, &device);
+    begin_sequence(seed, sequence, &bus);
     count = draw_call_count();
     for (unsigned number = 0; number < count; number++) {
         char where[96];
         uint8_t answer;
-        draw_call(&c, &device);
+        draw_call(&c, &bus);
         snprintf(where, sizeof where, "seed %" PRIu64 ", sequence %" PRIu64 ", call %u", seed, sequence, number);
         answer = call_both(&c, where);
-        count_call(&c, &device, answer);
+        follow_bus(&c, &bus, answer, where);
+        count_call(&c, &bus, answer);
         remember(&c, answer);
-        device = c.device;
+        bus.device = c.device;
+        bus.book = c.book;
     }
 }
 

@@ -1,5 +1,5 @@
 /* Published vectors, through both. The head of tests/published.txt says how its lines are to be read; one that names a routine which
- * she.h hasn't is for the program `vectors`, and is passed over here. */
+ * neither header has is for the program `vectors`, and is passed over here. */
 #include "lockstep.h"
 
 #include <stdio.h>
@@ -23,6 +23,7 @@ struct line {
 static struct value values[MAX_VALUES];
 static size_t value_count;
 static struct she_device device;
+static struct garage_book book;
 static char where[MAX_LINE]; /* the group's heading, and the line */
 static unsigned calls, looks;
 
@@ -180,10 +181,12 @@ static int run_call(const struct function *f, const struct line *l) {
     size_t at;
     blank_call(&c, f);
     c.device = device;
+    c.book = book;
     at = lay_numbers(&c, l);
     lay_buffers(&c, l, at);
     answer = call_both(&c, where);
     device = c.device;
+    book = c.book;
     calls++;
     return answer == SHE_NO_ERROR && is_as_printed(&c, l, at);
 }
@@ -212,6 +215,7 @@ int run_published(const char *path) {
     FILE *file = fopen(path, "r");
     if (!file) return printf("cannot open %s\n", path), 1;
     memset(&device, 0, sizeof device);
+    memset(&book, 0, sizeof book);
     while (fgets(text, sizeof text, file)) {
         struct line l;
         if (*text == '[') snprintf(heading, sizeof heading, "%.*s", (int)strcspn(text + 1, "]"), text + 1);

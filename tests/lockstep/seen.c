@@ -6,6 +6,8 @@
 #include <stdio.h>
 #include <string.h>
 
+extern __typeof__(garage_judge) second_garage_judge;
+
 enum { ANSWERS = SHE_GENERAL_ERROR + 1, MOST_FUNCTIONS = 64 };
 
 static uint64_t answered[MOST_FUNCTIONS][ANSWERS];
@@ -64,7 +66,36 @@ static uint64_t calls;
     X(REFUSED_WILDCARD, "LOAD_KEY: 7 for a forbidden wildcard alone") \
     X(REFUSED_FILLED, "LOAD_KEY: 7 for the 95 bits alone") \
     X(REFUSED_NOT_NEWER, "LOAD_KEY: 7 for the counter alone") \
-    X(REFUSED_AGAIN, "LOAD_KEY: 7 for a message written or used before")
+    X(REFUSED_AGAIN, "LOAD_KEY: 7 for a message written or used before") \
+    X(OPENED_OVER_WAITING, "garage_open: over a book in which something waits") \
+    X(OPENED_WITHOUT_KEY, "garage_open: with bytes in the place of a key that isn't held") \
+    X(BLANKED, "garage_open: 12, over an open book") \
+    X(REFUSED_ZERO_UID, "garage_open: 12 for a UID of zeros alone") \
+    X(REFUSED_MARK, "garage_open: 12 for a mark alone") \
+    X(REFUSED_COUNTER, "garage_open: 12 for a counter alone") \
+    X(MARKED_BUT_NOT_OPEN, "garage_judge: 12, though the marks are those of an open book") \
+    X(WRITTEN_BY_UNHELD_SELF, "garage_write: by the target itself, not held") \
+    X(WRITTEN_BY_HELD_SELF, "garage_write: by the target itself, held") \
+    X(WRITTEN_FOR_RAM_BY_SECRET, "garage_write: for RAM_KEY by SECRET_KEY") \
+    X(WRITTEN_FOR_RAM_BY_KEY_N, "garage_write: for RAM_KEY by KEY_n") \
+    X(WRITTEN_LARGEST, "garage_write: with the largest counter") \
+    X(WRITTEN_OVER_WAITING, "garage_write: in place of a message that waits") \
+    X(REFUSED_WIDE_TARGET, "garage_write: 3 for a target of more than 255") \
+    X(REFUSED_FLAGS, "garage_write: 12 for flags alone") \
+    X(YES_TO_BOARD, "garage_judge: yes to the board's proof") \
+    X(YES_FOR_RAM, "garage_judge: yes for RAM_KEY") \
+    X(YES_WITH_LARGEST, "garage_judge: yes with the largest counter") \
+    X(NO_AGAIN, "garage_judge: no to the board's proof a second time") \
+    X(NO_TO_OUTDATED, "garage_judge: no to the board's proof for a message that was replaced") \
+    X(NO_TO_ANOTHER, "garage_judge: no to the proof for another target, though something waits") \
+    X(NO_FOR_A_BIT_OF_M4, "garage_judge: no for a bit of M4 alone") \
+    X(NO_FOR_A_BIT_OF_M5, "garage_judge: no for a bit of M5 alone") \
+    X(NO_FOR_M4, "garage_judge: no for an M4 of something else") \
+    X(NO_FOR_M5, "garage_judge: no for an M5 of something else") \
+    X(LETTER_IN_STEP, "LOAD_KEY: the book's message, book and board in step") \
+    X(LETTER_PROTECTED, "LOAD_KEY: 6 to the book's message") \
+    X(LETTER_LOCKED, "LOAD_KEY: 2 to the book's message") \
+    X(LETTER_LATE, "LOAD_KEY: 7 to the book's message, as the proof for the one before was lost")
 
 #define NAME(name, text) name,
 #define TEXT(name, text) text,
@@ -73,8 +104,6 @@ static const char *const sight_texts[] = {SIGHTS(TEXT)};
 static uint64_t seen[SIGHT_COUNT];
 
 static void see(enum sight sight, int is_seen) { seen[sight] += is_seen != 0; }
-
-static int is_named(const struct call *c, const char *name) { return !strcmp(c->function->name, name); }
 
 static uint64_t number_of(const struct call *c, enum number_kind kind, uint64_t otherwise) {
     for (size_t i = 0; c->function->numbers[i] != NO_NUMBER; i++)
@@ -140,12 +169,11 @@ static void look_at_cbc(const struct call *c, uint8_t answer) {
     see(TOO_LONG_CBC, answer == SHE_GENERAL_ERROR && in->length == 16 * (SHE_MAX_BLOCKS + 1));
 }
 
-static int is_wildcard(const uint8_t *uid) {
-    static const uint8_t zeros[SHE_UID];
-    return !memcmp(uid, zeros, SHE_UID);
+static int is_zero(const uint8_t *bytes, size_t length) {
+    for (size_t i = 0; i < length; i++)
+        if (bytes[i]) return 0;
+    return 1;
 }
-
-static int has_failed(const struct she_device *d) { return d->marks[SHE_MARK_SECURE_BOOT] && !d->marks[SHE_MARK_BOOT_OK]; }
 
 static void look_at_loaded(const struct call *c, const struct she_device *before) {
     const uint8_t *m1 = c->piece[BUFFERS].bytes;
@@ -153,8 +181,8 @@ static void look_at_loaded(const struct call *c, const struct she_device *before
     int into_ram = target == SHE_RAM_KEY, by_key_n = authority >= SHE_KEY_1;
     see(LOADED_BY_EMPTY_SELF, target == authority && before->empty[target]);
     see(LOADED_BY_FULL_SELF, target == authority && !before->empty[target]);
-    see(LOADED_BY_WILDCARD, !into_ram && is_wildcard(m1));
-    see(LOADED_RAM_BY_WILDCARD, into_ram && is_wildcard(m1));
+    see(LOADED_BY_WILDCARD, !into_ram && is_zero(m1, SHE_UID));
+    see(LOADED_RAM_BY_WILDCARD, into_ram && is_zero(m1, SHE_UID));
     see(LOADED_RAM_BY_SECRET, into_ram && !by_key_n);
     see(LOADED_RAM_BY_KEY_N, into_ram && by_key_n);
     see(LOADED_RAM_BY_MAC_KEY, into_ram && before->flags[authority] & SHE_KEY_USAGE);
@@ -176,7 +204,78 @@ static void look_at_refused(const struct call *c) {
     see(REFUSED_AGAIN, faults == REPLAYED);
 }
 
-void count_call(const struct call *after, const struct she_device *before, uint8_t answer) {
+static int has_right_marks(const struct garage_book *b) { return b->marks[0] == 1 && is_zero(b->marks + 1, GARAGE_MARKS - 1); }
+
+/* By the second: a book that isn't open is told before a target that is none. */
+static int is_open(const struct garage_book *b) {
+    struct garage_book copy = *b;
+    uint8_t m4[SHE_TWO_BLOCKS] = {0}, m5[SHE_BLOCK] = {0}, verdict;
+    return second_garage_judge(&copy, 0, m4, sizeof m4, m5, sizeof m5, &verdict) == SHE_KEY_INVALID;
+}
+
+/* Of uid, keys, held and counters the first three; what is left is the counters. */
+static void look_at_open(const struct call *c, const struct garage_book *before, uint8_t answer) {
+    const struct piece *buffer = &c->piece[BUFFERS];
+    const uint8_t *held = buffer[2].bytes;
+    int is_refused = answer != SHE_NO_ERROR, has_bytes = 0, has_marks = 1;
+    if (!has_right_lengths(c)) return;
+    for (size_t slot = 0; slot < SHE_SLOTS; slot++) {
+        has_bytes |= !held[slot] && !is_zero(buffer[1].bytes + 16 * slot, 16);
+        has_marks &= held[slot] <= 1;
+    }
+    see(OPENED_OVER_WAITING, !is_refused && !is_zero(before->waits, SHE_SLOTS) && is_open(before));
+    see(OPENED_WITHOUT_KEY, !is_refused && has_bytes);
+    see(BLANKED, is_refused && is_open(before));
+    see(REFUSED_ZERO_UID, is_refused && has_marks && is_zero(buffer[0].bytes, SHE_UID));
+    see(REFUSED_MARK, is_refused && !has_marks);
+    see(REFUSED_COUNTER, is_refused && has_marks && !is_zero(buffer[0].bytes, SHE_UID));
+}
+
+static void look_at_write(const struct call *c, const struct garage_book *before, uint8_t answer) {
+    uint64_t target = c->number[0], authority = c->number[1];
+    int is_own = target == authority, for_ram = target == SHE_RAM_KEY;
+    see(REFUSED_WIDE_TARGET, answer == SHE_KEY_INVALID && target > 255);
+    see(REFUSED_FLAGS, answer == SHE_GENERAL_ERROR && has_right_lengths(c) && is_open(before));
+    if (answer != SHE_NO_ERROR) return;
+    see(WRITTEN_BY_UNHELD_SELF, is_own && !before->held[target]);
+    see(WRITTEN_BY_HELD_SELF, is_own && before->held[target]);
+    see(WRITTEN_FOR_RAM_BY_SECRET, for_ram && authority == SHE_SECRET_KEY);
+    see(WRITTEN_FOR_RAM_BY_KEY_N, for_ram && authority != SHE_SECRET_KEY);
+    see(WRITTEN_LARGEST, c->book.newcounters[target] == SHE_MAX_COUNTER);
+    see(WRITTEN_OVER_WAITING, before->waits[target]);
+}
+
+static void look_at_judge(const struct call *c, const struct garage_book *before, uint8_t answer) {
+    uint64_t target = c->number[0];
+    int is_yes = *c->piece[THE_BYTE].bytes, waits;
+    see(MARKED_BUT_NOT_OPEN, answer == SHE_GENERAL_ERROR && has_right_marks(before) && has_right_lengths(c));
+    if (answer != SHE_NO_ERROR) return;
+    waits = before->waits[target];
+    see(YES_TO_BOARD, is_yes && c->traits & OF_THE_BOARD);
+    see(YES_FOR_RAM, is_yes && target == SHE_RAM_KEY);
+    see(YES_WITH_LARGEST, is_yes && c->book.counters[target] == SHE_MAX_COUNTER);
+    see(NO_AGAIN, !waits && c->traits & OF_THE_BOARD);
+    see(NO_TO_OUTDATED, !is_yes && waits && c->traits & OUTDATED);
+    see(NO_TO_ANOTHER, !is_yes && waits && c->traits & OF_ANOTHER);
+    see(NO_FOR_A_BIT_OF_M4, !is_yes && waits && c->traits & A_BIT_OF_M4);
+    see(NO_FOR_A_BIT_OF_M5, !is_yes && waits && c->traits & A_BIT_OF_M5);
+    see(NO_FOR_M4, !is_yes && waits && c->traits & OTHER_M4);
+    see(NO_FOR_M5, !is_yes && waits && c->traits & OTHER_M5);
+}
+
+/* The board keeps a counter that the book has only for the message that it wrote anew. */
+static void look_at_letter(const struct call *c, const struct bus *before, uint8_t answer) {
+    uint8_t target = c->piece[BUFFERS].bytes[15] / 16;
+    if (!(c->traits & BY_THE_BOOK)) return;
+    see(LETTER_IN_STEP, answer == SHE_NO_ERROR && c->traits & IN_STEP);
+    see(LETTER_PROTECTED, answer == SHE_KEY_WRITE_PROTECTED);
+    see(LETTER_LOCKED, answer == SHE_KEY_NOT_AVAILABLE);
+    see(LETTER_LATE, answer == SHE_KEY_UPDATE_ERROR && before->book.waits[target] &&
+        before->device.counters[target] == before->book.newcounters[target]);
+}
+
+void count_call(const struct call *after, const struct bus *bus, uint8_t answer) {
+    const struct she_device *before = &bus->device;
     answered[after->function - functions][answer]++;
     calls++;
     if (is_named(after, "verify_mac")) look_at_verify(after, answer);
@@ -194,6 +293,10 @@ void count_call(const struct call *after, const struct she_device *before, uint8
     see(WIDE_SLOT, answer == SHE_KEY_INVALID && number_of(after, SLOT, 0) > 255);
     look_at_mac(after, answer);
     look_at_cbc(after, answer);
+    if (is_named(after, "garage_open")) look_at_open(after, &bus->book, answer);
+    if (is_named(after, "garage_write")) look_at_write(after, &bus->book, answer);
+    if (is_named(after, "garage_judge")) look_at_judge(after, &bus->book, answer);
+    if (is_named(after, "load_key")) look_at_letter(after, bus, answer);
 }
 
 uint64_t calls_counted(void) { return calls; }

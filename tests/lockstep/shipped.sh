@@ -1,7 +1,7 @@
 #!/bin/sh
 # shipped.sh: what the kit writes for firmware is code for x86-64. On another machine that code is tried too, under the kit's
 # emulator: the demo writes what it should, and a run of the comparison leaves the same bytes, call by call, as on this machine,
-# where they were compared with the second program's. There is no second program for x86-64 here, so that the library stands on
+# where they were compared with the second program's. There is no second program for x86-64 here, so that the libraries stand on
 # both sides. After build-c.sh.
 set -eu
 cd "$(dirname "$0")/../.."
@@ -13,11 +13,12 @@ if [ "$machine" = x86_64 ]; then
 fi
 tools=$(dirname "$(dirname "$(rt doc)")")/on/$machine/toolchain
 lib=$tools/lib
-if nm -u "$out/she-x86-64.o" | sed -n 's/^ *U //p' | grep -v -x -e memcpy -e memset -e memmove -e memcmp -e bcmp; then
+if nm -u "$out/she-x86-64.o" "$out/garage-x86-64.o" | sed -n 's/^ *U //p' |
+    grep -v -x -e memcpy -e memset -e memmove -e memcmp -e bcmp; then
     exit 1
 fi
 
-program() { # NAME SOURCE..: compiled for x86-64, and linked with the kit's object
+program() { # NAME SOURCE..: compiled for x86-64, and linked with the kit's objects
     name=$1 objects=
     shift
     for source; do
@@ -28,8 +29,8 @@ program() { # NAME SOURCE..: compiled for x86-64, and linked with the kit's obje
     done
     # shellcheck disable=SC2086
     "$tools/bin/ld.lld" -pie --dynamic-linker /lib64/ld-linux-x86-64.so.2 -o "$out/$name-x86-64" "$lib/Scrt1.o" "$lib/crti.o" \
-        "$lib/crtbeginS.o" $objects "$out/she-x86-64.o" "$lib/libc.so.6" "$lib/libc_nonshared.a" "$lib/libgcc.a" \
-        "$lib/crtendS.o" "$lib/crtn.o"
+        "$lib/crtbeginS.o" $objects "$out/she-x86-64.o" "$out/garage-x86-64.o" "$lib/libc.so.6" "$lib/libc_nonshared.a" \
+        "$lib/libgcc.a" "$lib/crtendS.o" "$lib/crtn.o"
 }
 
 emulated() { # NAME ARGUMENT..
@@ -60,7 +61,8 @@ same_digest() { # ARGUMENT..: of the comparison
     fi
 }
 
-sed -n 's/^uint8_t she_\([a-z0-9_]*\)(.*/#define second_\1 she_\1/p' include/she.h >"$out/one-side.h"
+sed -n -e 's/^uint8_t she_\([a-z0-9_]*\)(.*/#define second_\1 she_\1/p' \
+    -e 's/^uint8_t \(garage_[a-z0-9_]*\)(.*/#define second_\1 \1/p' include/she.h include/garage.h >"$out/one-side.h"
 flags_kept >"$out/flags-kept.c"
 program yard demo/yard.c
 program lockstep tests/lockstep/*.c "$out/flags-kept.c"

@@ -1,5 +1,5 @@
 #!/bin/sh
-# soak.sh [SEED]: random sequences of calls to the library and to the second program, until it is stopped.
+# soak.sh [SEED]: random sequences of calls to the libraries and to the second program, until it is stopped.
 set -eu
 cd "$(dirname "$0")/../.."
 seed=${1:-$(date +%s)}

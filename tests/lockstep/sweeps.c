@@ -7,16 +7,25 @@
 
 extern __typeof__(she_cmac) second_cmac;
 
-#define LENGTH(array) (sizeof(array) / sizeof *(array))
-
+static struct bus bus; /* the board that is swept with, and the book */
 static struct call c;
 static const char *sweep;
 static uint64_t seed, calls;
 
-static uint8_t run(void) {
+void run_in_sweep(struct call *call, const struct bus *before) {
     char where[96];
+    uint8_t answer;
     snprintf(where, sizeof where, "sweep of %s, seed %" PRIu64 ", call %" PRIu64, sweep, seed, calls++);
-    return call_both(&c, where);
+    answer = call_both(call, where);
+    if (before) follow_bus(call, before, answer, where);
+}
+
+static void run(void) { run_in_sweep(&c, NULL); }
+
+/* A call to this board, beside the book. */
+static void prepare(const struct function *f, const struct she_device *d, const uint64_t *numbers) {
+    bus.device = *d;
+    prepare_call(&c, f, &bus, numbers);
 }
 
 /* The device is left as the call leaves it. */
@@ -36,7 +45,7 @@ static void sweep_record(const struct she_device *d) {
     const struct function *f = function_named("get_status");
     for (size_t at = 0; at < sizeof *d; at++)
         for (unsigned value = 0; value < 256; value++) {
-            prepare_call(&c, f, d, NULL);
+            prepare(f, d, NULL);
             c.piece[THE_RECORD].bytes[at] = (uint8_t)value;
             run();
         }
@@ -51,8 +60,8 @@ static void put_marks(struct she_device *d, size_t from, size_t to, unsigned set
  * and what becomes of each mark. */
 static void sweep_marks(const struct she_device *d) {
     for (const struct function *f = functions; f < functions + function_count; f++)
-        for (unsigned set = 0; set < 1u << FIRST_UNNAMED; set++) {
-            prepare_call(&c, f, d, NULL);
+        for (unsigned set = 0; f->record == A_DEVICE && set < 1u << FIRST_UNNAMED; set++) {
+            prepare(f, d, NULL);
             put_marks(&c.device, 0, FIRST_UNNAMED, set);
             run();
         }
@@ -63,7 +72,7 @@ static void sweep_slots(const struct she_device *d) {
     for (const struct function *f = functions; f < functions + function_count; f++)
         for (size_t i = 0; takes(f, SLOT) && i < 256 + LENGTH(wide); i++) {
             uint64_t numbers[MAX_NUMBERS] = {i < 256 ? i : wide[i - 256], i, i % 128, 0};
-            prepare_call(&c, f, d, numbers);
+            prepare(f, d, numbers);
             run();
         }
 }
@@ -73,7 +82,7 @@ static void sweep_writers(const struct she_device *d) {
                                      0x10004, 0xFFFFFFFF};
     for (const struct function *f = functions; f < functions + function_count; f++)
         for (size_t i = 0; takes(f, TARGET) && i < LENGTH(slots) * LENGTH(slots); i++) {
-            prepare_call(&c, f, d, NULL);
+            prepare(f, d, NULL);
             c.number[0] = slots[i / LENGTH(slots)];
             c.number[1] = slots[i % LENGTH(slots)];
             run();
@@ -91,12 +100,12 @@ static void plan_load(struct plan *p, const struct she_device *d, uint32_t targe
     if (authority < SHE_SLOTS && !d->empty[authority]) memcpy(p->key, d->keys + 16 * authority, 16);
 }
 
-static uint8_t run_load(const struct plan *p, const struct she_device *d) {
+static void run_load(const struct plan *p, const struct she_device *d) {
     struct message m;
-    prepare_call(&c, function_named("load_key"), d, NULL);
+    prepare(function_named("load_key"), d, NULL);
     build_message(p, &m);
     put_message(&c, &m);
-    return run();
+    run();
 }
 
 /* Every slot byte with a message that its authority has sealed, to this board and to any. */
@@ -137,7 +146,7 @@ static void sweep_damage(const struct she_device *d) {
         struct plan p;
         struct message m;
         plan_load(&p, d, SHE_RAM_KEY, SHE_SECRET_KEY);
-        prepare_call(&c, function_named("load_key"), d, NULL);
+        prepare(function_named("load_key"), d, NULL);
         build_message(&p, &m);
         flip_bit((uint8_t *)&m, bit);
         put_message(&c, &m);
@@ -168,7 +177,7 @@ static void sweep_mac_bits(const struct she_device *made) {
     for (unsigned i = 0; i < 130 * 129; i++) {
         uint64_t numbers[MAX_NUMBERS] = {SHE_RAM_KEY, i % 300, i / 129, 0};
         uint8_t mac[16];
-        prepare_call(&c, function_named("verify_mac"), &d, numbers);
+        prepare(function_named("verify_mac"), &d, numbers);
         second_cmac(d.keys + 16 * SHE_RAM_KEY, 16, numbers[1], c.piece[BUFFERS].bytes, c.piece[BUFFERS].length, mac, 16);
         if (i % 129 < 128) flip_bit(mac, i % 129);
         put(&c, "mac", mac, sizeof mac);
@@ -195,7 +204,7 @@ static void run_lockable(const struct function *f, const struct she_device *d, u
         run_load(&p, d);
         return;
     }
-    prepare_call(&c, f, d, numbers);
+    prepare(f, d, numbers);
     run();
 }
 
@@ -225,9 +234,9 @@ static struct she_device unlearnt(const struct she_device *made) {
 
 /* A reset, and a boot with these bytes. */
 static void run_boot(struct she_device *d, const uint8_t *bootloader, size_t length) {
-    prepare_call(&c, function_named("reset"), d, NULL);
+    prepare(function_named("reset"), d, NULL);
     run_on(d);
-    prepare_call(&c, function_named("secure_boot"), d, NULL);
+    prepare(function_named("secure_boot"), d, NULL);
     put(&c, "bootloader", bootloader, length);
     set_length(&c, 0, length);
     run_on(d);
@@ -267,7 +276,7 @@ static void sweep_boot_bits(const struct she_device *made) {
 
 static void sweep_bits(const struct she_device *d) {
     for (uint64_t bits = 0; bits < 1200; bits++) {
-        prepare_call(&c, function_named("cmac"), d, &bits);
+        prepare(function_named("cmac"), d, &bits);
         run();
     }
 }
@@ -276,38 +285,67 @@ static void sweep_bits(const struct she_device *d) {
 static void sweep_lengths(const struct she_device *d) {
     for (const struct function *f = functions; f < functions + function_count; f++)
         for (size_t i = 0; i < buffer_count(f) * 70; i++) {
-            prepare_call(&c, f, d, NULL);
-            memset(c.piece[BUFFERS + i / 70].bytes, 0x5A, i % 70);
-            set_length(&c, i / 70, i % 70);
+            prepare(f, d, NULL);
+            she_length length = f->buffers[i / 70].unit * (i % 70);
+            memset(c.piece[BUFFERS + i / 70].bytes, 0x5A, length);
+            set_length(&c, i / 70, length);
             run();
         }
 }
 
+/* Each is of a board, or of a board and a book, and is run with so many of these. The largest two make do with a book that is as
+ * opened and one in which messages wait. */
 static const struct {
     const char *name;
-    void (*sweep)(const struct she_device *);
+    uint64_t records;
+    void (*of_board)(const struct she_device *);
+    void (*of_bus)(const struct bus *);
 } sweeps[] = {
-    {"records", sweep_record},         {"marks", sweep_marks},           {"slots", sweep_slots},
-    {"writers", sweep_writers},        {"slot bytes", sweep_slot_bytes}, {"flags", sweep_flags},
-    {"filler", sweep_filler},          {"damage", sweep_damage},         {"counters", sweep_counters},
-    {"bits compared", sweep_mac_bits}, {"bits", sweep_bits},             {"lengths", sweep_lengths},
-    {"boot bits", sweep_boot_bits},    {"locks", sweep_locks},           {"bootloaders", sweep_bootloaders},
+    {"records", 6, sweep_record, NULL},
+    {"marks", 6, sweep_marks, NULL},
+    {"slots", 6, sweep_slots, NULL},
+    {"writers", 6, sweep_writers, NULL},
+    {"slot bytes", 6, sweep_slot_bytes, NULL},
+    {"flags", 6, sweep_flags, NULL},
+    {"filler", 6, sweep_filler, NULL},
+    {"damage", 6, sweep_damage, NULL},
+    {"counters", 6, sweep_counters, NULL},
+    {"bits compared", 6, sweep_mac_bits, NULL},
+    {"bits", 6, sweep_bits, NULL},
+    {"lengths", 6, sweep_lengths, NULL},
+    {"boot bits", 6, sweep_boot_bits, NULL},
+    {"locks", 6, sweep_locks, NULL},
+    {"bootloaders", 6, sweep_bootloaders, NULL},
+    {"books", 2, NULL, sweep_books},
+    {"changed books", 6, NULL, sweep_changed_books},
+    {"pairs", 2, NULL, sweep_pairs},
+    {"written flags", 6, NULL, sweep_written_flags},
+    {"written counters", 6, NULL, sweep_written_counters},
+    {"openings", 6, NULL, sweep_openings},
+    {"proofs", 6, NULL, sweep_proofs},
+    {"journeys", 6, NULL, sweep_journeys},
 };
 
+static void run_sweep(size_t i) {
+    sweep = sweeps[i].name;
+    calls = 0;
+    for (uint64_t k = 0; k < sweeps[i].records; k++) {
+        struct bus drawn;
+        begin_board(seed, k);
+        (k % 3 ? rich_record : make_record)(&drawn.device);
+        (k % 3 ? rich_book : open_book)(&drawn.book, &drawn.device);
+        bus = drawn;
+        if (sweeps[i].of_board) sweeps[i].of_board(&drawn.device);
+        else sweeps[i].of_bus(&drawn);
+    }
+    printf("sweep of %s: %" PRIu64 " calls to each, no difference\n", sweep, calls);
+}
+
 int run_sweeps(uint64_t from) {
-    enum { RECORDS = 6 };
     uint64_t all = 0;
     seed = from;
     for (size_t i = 0; i < LENGTH(sweeps); i++) {
-        sweep = sweeps[i].name;
-        calls = 0;
-        for (uint64_t k = 0; k < RECORDS; k++) {
-            struct she_device d;
-            begin_board(seed, k);
-            (k % 3 ? rich_record : make_record)(&d);
-            sweeps[i].sweep(&d);
-        }
-        printf("sweep of %s: %" PRIu64 " calls to each, no difference\n", sweep, calls);
+        run_sweep(i);
         all += calls;
     }
     print_digest();

@@ -7,7 +7,8 @@
 //
 // A line is a name and up to twelve numbers; the words between them are for the reader, and have no digits. A number that is
 // left out is larger than any, and a length that is larger than a buffer stands for all of it. A line that starts with # is a
-// heading. There is one device, which each line leaves to the next. The names, with their numbers:
+// heading. There is one device, and one book of the foreman's about it, which each line leaves to the next. The names, with their
+// numbers:
 //
 //     MAKE uid, its length, of SECRET_KEY, of the seed, a bit of SECRET_KEY that is changed
 //     DEVICE last, flags                   makes the device, and loads slots 1 to the last by slot 1 with counter 1
@@ -29,10 +30,19 @@
 //                                          the lengths of M1 to M5; with no number the last messages again
 //     PAIRS                                the slot bytes of M1 that LOAD_KEY takes
 //     EXPORT_RAM_KEY lengths of M1 to M5
+//     BOOK lengths of UID, keys, marks, counters, and a field, place, value
+//                                          opens the book with what the device holds, or would hold after SET with the last three
+//     LETTER target, authority, flags, lengths of the new key and of M1 to M3
+//                                          the book writes over the last messages, so that LOAD_KEY with no number loads them
+//     RECEIPT target, a bit that is changed, lengths of M4 and M5
+//                                          the book judges the last M4 and M5
 //
 // The key of a slot is made of its number. UID 0 is the wildcard, 1 the device's own, 2 another. VERIFY_MAC takes the block
 // that the last of the five before it put out. Bits are counted from the most significant of the first byte, through M1, M2 and
-// M3.
+// M3, and through M4 and M5. A letter brings the key of its target.
+//
+// After a line of the book stands what is new in it: which slots are held once it is opened, the counter of a letter, and what a
+// yes has put in. After a refusal and after a no stands whether the book and the messages are as they were.
 //
 // The fields that are written where they changed, with an example of those that hold several things:
 //
@@ -44,6 +54,7 @@
 use commands::Verdict;
 use device::Device;
 use device::Reply;
+use garage::Book;
 use libc::STDIN_FILENO;
 use libc::STDOUT_FILENO;
 use modes::Constant;
@@ -91,7 +102,7 @@ BUSY                \
 MEMORY_FAILURE      \
 GENERAL_ERROR       ";
 
-const COMMANDS: [u8; 500] = *b"ENC_ECB             \
+const COMMANDS: [u8; 560] = *b"ENC_ECB             \
 DEC_ECB             \
 ENC_CBC             \
 DEC_CBC             \
@@ -115,7 +126,10 @@ DEVICE              \
 SET                 \
 RECORD              \
 ROLES               \
-PAIRS               ";
+PAIRS               \
+BOOK                \
+LETTER              \
+RECEIPT             ";
 
 const ENC_ECB: u8 = 0;
 
@@ -167,11 +181,19 @@ const ROLES: u8 = 23;
 
 const PAIRS: u8 = 24;
 
-const NO_COMMAND: u8 = 25;
+const BOOK: u8 = 25;
 
-// What a line leaves to the next: the device, the last M1 to M5, and the block that a cipher or GENERATE_MAC put out last.
+const LETTER: u8 = 26;
+
+const RECEIPT: u8 = 27;
+
+const NO_COMMAND: u8 = 28;
+
+// What a line leaves to the next: the device, the book, the last M1 to M5, and the block that a cipher or GENERATE_MAC put out
+// last.
 struct Bench {
     device: Device,
+    book: Book,
     messages: [u8; 112],
     block: [u8; 16],
 }
@@ -194,6 +216,13 @@ struct Used {
 struct Left {
     answer: u8,
     device: Device,
+    messages: [u8; 112],
+}
+
+// What LETTER left, with M1 to M5.
+struct Posted {
+    answer: u8,
+    book: Book,
     messages: [u8; 112],
 }
 
@@ -718,6 +747,15 @@ fn with_two_blocks(messages: [u8; 112], at: usize, part: [u8; 32]) -> [u8; 112] 
     after
 }
 
+fn with_update(messages: [u8; 112], m1: [u8; 16], m2: [u8; 32], m3: [u8; 16]) -> [u8; 112] {
+    let begun = with_two_blocks(with_block(messages, 0, m1), 16, m2);
+    with_block(begun, 48, m3)
+}
+
+fn with_proof(messages: [u8; 112], m4: [u8; 32], m5: [u8; 16]) -> [u8; 112] {
+    with_block(with_two_blocks(messages, 64, m4), 96, m5)
+}
+
 // M1 to M3, by hand: the writer of key messages would refuse some of them.
 fn sealed(authkey: [u8; 16], m1: [u8; 16], m2: [u8; 32]) -> [u8; 112] {
     let signed = with_two_blocks(with_block([0; 112], 0, m1), 16, m2);
@@ -766,7 +804,7 @@ fn loaded(device: Device, messages: [u8; 112], n: [u64; 12]) -> Left {
     Left {
         answer: reply.answer,
         device: after,
-        messages: with_block(with_two_blocks(messages, 64, m4), 96, m5),
+        messages: with_proof(messages, m4, m5),
     }
 }
 
@@ -842,13 +880,11 @@ fn exported(device: Device, n: [u64; 12]) -> Left {
         &mut m4[..end_4],
         &mut m5[..end_5],
     );
-    let signed = with_two_blocks(with_block([0; 112], 0, m1), 16, m2);
-    let sealed = with_block(signed, 48, m3);
     let after = reply.device;
     Left {
         answer: reply.answer,
         device: after,
-        messages: with_block(with_two_blocks(sealed, 64, m4), 96, m5),
+        messages: with_proof(with_update([0; 112], m1, m2, m3), m4, m5),
     }
 }
 
@@ -939,6 +975,245 @@ fn with_field(device: Device, field: u64, at: u64, value: u64) -> Device {
     }
 }
 
+// ---- the book
+
+fn blank_book() -> Book {
+    Book {
+        keys: [0; 240],
+        newkeys: [0; 240],
+        counters: [0; 15],
+        newcounters: [0; 15],
+        held: [0; 15],
+        waits: [0; 15],
+        authorities: [0; 15],
+        uid: [0; 15],
+        marks: [0; 4],
+    }
+}
+
+fn word_at(words: &[u32], at: usize) -> u32 {
+    if at < words.len() { words[at] } else { 0 }
+}
+
+fn same_counters(a: [u32; 15], b: [u32; 15]) -> bool {
+    let mut all = true;
+    let mut slot: usize = 0;
+    while slot < 15 {
+        all = all & (a[slot] == b[slot]);
+        slot += 1;
+    }
+    all
+}
+
+// In what they know of the bus.
+fn same_known(a: Book, b: Book) -> bool {
+    let keys = basics::is_same(&a.keys, &b.keys);
+    let held = basics::is_same(&a.held, &b.held);
+    let named = basics::is_same(&a.uid, &b.uid) & basics::is_same(&a.marks, &b.marks);
+    let counters = a.counters;
+    let others = b.counters;
+    keys & held & named & same_counters(counters, others)
+}
+
+// In the messages that wait.
+fn same_waiting(a: Book, b: Book) -> bool {
+    let keys = basics::is_same(&a.newkeys, &b.newkeys);
+    let waits = basics::is_same(&a.waits, &b.waits);
+    let authorities = basics::is_same(&a.authorities, &b.authorities);
+    let counters = a.newcounters;
+    let others = b.newcounters;
+    keys & waits & authorities & same_counters(counters, others)
+}
+
+fn same_book(a: Book, b: Book) -> bool {
+    same_known(a, b) & same_waiting(a, b)
+}
+
+// ---- BOOK
+
+// A mark for each slot, on where it is not empty, and one more for a wrong length. An empty mark that is neither on nor off gives
+// another such.
+fn held_marks(device: Device) -> [u8; 16] {
+    let mut marks = [1u8; 16];
+    let mut slot: usize = 0;
+    while slot < 15 {
+        marks[slot] = device.empty[slot] ^ 1;
+        slot += 1;
+    }
+    marks
+}
+
+// Of slots 1 to 14, which is one more than the book has.
+fn counters_from_1(device: Device) -> [u32; 14] {
+    let mut counters = [0u32; 14];
+    let mut i: usize = 0;
+    while i < 14 {
+        counters[i] = device.counters[1 + i];
+        i += 1;
+    }
+    counters
+}
+
+fn front_words(words: &[u32], n: u64) -> &[u32] {
+    let end = n as usize;
+    if end < words.len() {
+        &words[..end]
+    } else {
+        words
+    }
+}
+
+fn opened(device: Device, n: [u64; 12]) -> garage::Reply {
+    let mut keys = [0u8; 256];
+    put(&mut keys, 0, &device.keys);
+    garage::open(
+        text::front(&basics::block_at(&device.uid, 0), n[0]),
+        text::front(&keys, n[1]),
+        text::front(&held_marks(device), n[2]),
+        front_words(&counters_from_1(device), n[3]),
+    )
+}
+
+// What the foreman is told of the device, which may be something else than it holds.
+fn told(device: Device, n: [u64; 12]) -> Device {
+    if n[4] == ABSENT {
+        return device;
+    }
+    with_field(device, n[4], n[5], n[6])
+}
+
+fn write_opened(answer: u8, book: Book) {
+    write_answer(answer);
+    if answer == 0 {
+        write_hex(b", held ", &book.held);
+    } else if same_book(book, blank_book()) {
+        write(b", blank book");
+    } else {
+        write(b", NOT BLANK");
+    }
+    write(b"\n");
+}
+
+fn open_book(bench: Bench, n: [u64; 12]) -> Bench {
+    let reply = opened(told(bench.device, n), n);
+    let book = reply.book;
+    write_opened(reply.answer, book);
+    let mut after = bench;
+    after.book = book;
+    after
+}
+
+// ---- LETTER and RECEIPT
+
+// The end of such a line, with what it left of the book and of M1 to M5.
+fn finish_book(bench: Bench, refused: bool, book: Book, messages: [u8; 112]) -> Bench {
+    let clean = basics::is_same(&bench.messages, &messages);
+    write_kept(refused, same_book(bench.book, book), clean, false);
+    let mut after = bench;
+    after.book = book;
+    after.messages = messages;
+    after
+}
+
+fn letter_reply(
+    book: Book,
+    n: [u64; 12],
+    m1: &mut [u8],
+    m2: &mut [u8],
+    m3: &mut [u8],
+) -> garage::Reply {
+    let key = slot_key(text::byte_of(n[0]));
+    let target = text::word_of(n[0]);
+    let authority = text::word_of(n[1]);
+    let flags = text::word_of(n[2]);
+    garage::write(
+        book,
+        target,
+        authority,
+        flags,
+        text::front(&key, n[3]),
+        m1,
+        m2,
+        m3,
+    )
+}
+
+fn post(book: Book, messages: [u8; 112], n: [u64; 12]) -> Posted {
+    let mut m1 = basics::block_at(&messages, 0);
+    let mut m2 = [0u8; 32];
+    put(&mut m2, 0, text::rest(&messages, 16));
+    let mut m3 = basics::block_at(&messages, 3);
+    let end_1 = text::front_size(&m1, n[4]);
+    let end_2 = text::front_size(&m2, n[5]);
+    let end_3 = text::front_size(&m3, n[6]);
+    let reply = letter_reply(
+        book,
+        n,
+        &mut m1[..end_1],
+        &mut m2[..end_2],
+        &mut m3[..end_3],
+    );
+    let after = reply.book;
+    Posted {
+        answer: reply.answer,
+        book: after,
+        messages: with_update(messages, m1, m2, m3),
+    }
+}
+
+fn write_posted(answer: u8, messages: [u8; 112], counter: u32) {
+    write_answer(answer);
+    if answer == 0 {
+        write_hex(b", ", text::front(&messages, 64));
+        write_number(b", counter ", counter as u64);
+    }
+}
+
+fn letter(bench: Bench, n: [u64; 12]) -> Bench {
+    let before = bench.messages;
+    let posted = post(bench.book, before, n);
+    let messages = posted.messages;
+    let book = posted.book;
+    let counter = word_at(&book.newcounters, text::byte_of(n[0]) as usize);
+    write_posted(posted.answer, messages, counter);
+    finish_book(bench, posted.answer != 0, book, messages)
+}
+
+fn judged(book: Book, proof: &[u8], n: [u64; 12], verdict: &mut u8) -> garage::Reply {
+    let m4 = part(proof, 0, 32, n[2]);
+    let m5 = part(proof, 32, 16, n[3]);
+    garage::judge(book, text::word_of(n[0]), m4, m5, verdict)
+}
+
+fn write_judged(answer: u8, verdict: u8, book: Book, at: usize) {
+    write_answer(answer);
+    write_number(b", gives ", verdict as u64);
+    if verdict == 1 {
+        write_number(b", held ", basics::byte_at(&book.held, at) as u64);
+        write_number(b", counter ", word_at(&book.counters, at) as u64);
+    }
+}
+
+fn receipt(bench: Bench, n: [u64; 12]) -> Bench {
+    let messages = bench.messages;
+    let mut proof = [0u8; 48];
+    put(&mut proof, 0, text::rest(&messages, 64));
+    flip(&mut proof, n[1]);
+    let mut verdict = FILLER;
+    let reply = judged(bench.book, &proof, n, &mut verdict);
+    let book = reply.book;
+    write_judged(reply.answer, verdict, book, text::byte_of(n[0]) as usize);
+    finish_book(bench, verdict != 1, book, messages)
+}
+
+fn run_book(bench: Bench, command: u8, n: [u64; 12]) -> Bench {
+    match command {
+        BOOK => open_book(bench, n),
+        LETTER => letter(bench, n),
+        _ => receipt(bench, n),
+    }
+}
+
 // ---- lines
 
 // A line that shows something of the device.
@@ -988,6 +1263,7 @@ fn run_command(bench: Bench, command: u8, n: [u64; 12]) -> Bench {
         EXPORT_RAM_KEY => finish_messages(bench, exported(bench.device, n), 0, true),
         MAKE => make(bench, n),
         DEVICE => prepare(bench, text::byte_of(n[0]), n[1]),
+        BOOK..=RECEIPT => run_book(bench, command, n),
         _ => run_other(bench, command, n),
     }
 }
@@ -1008,6 +1284,7 @@ fn run_line(bench: Bench, line: &[u8]) -> Bench {
 fn run(lines: &[u8]) {
     let mut bench = Bench {
         device: device::blank(),
+        book: blank_book(),
         messages: [0; 112],
         block: [0; 16],
     };

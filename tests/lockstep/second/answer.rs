@@ -49,6 +49,6 @@ pub fn demand(holds: bool, reason: Refusal) -> Answer<()> {
 }
 
 /// A lent buffer as an array, or 12 for a wrong length.
-pub fn exactly<const N: usize>(lent: &[u8]) -> Answer<[u8; N]> {
+pub fn exactly<T: Copy, const N: usize>(lent: &[T]) -> Answer<[T; N]> {
     lent.try_into().map_err(|_| Refusal::GeneralError)
 }

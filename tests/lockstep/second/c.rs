@@ -1,10 +1,12 @@
-//! The C side: for each `she_NAME` of the header a `second_NAME` with the same parameters.
+//! The C side: for each `she_NAME` of the headers a `second_NAME`, and for each `garage_NAME` a `second_garage_NAME`, with the same
+//! parameters.
 //!
-//! What the caller owes is what the header says: pointers valid for the length beside them and never null, and nothing that is
+//! What the caller owes is what the headers say: pointers valid for the length beside them and never null, and nothing that is
 //! written to overlaps anything else. A length has 64 bits there and is a `usize` here, so that this is for machines of 64 bits.
 
 use crate::algorithms::{self, Way};
 use crate::answer::{number, Answer};
+use crate::book::{Book, Page};
 use crate::device::{Device, Record};
 use crate::messages::{self, Order, ProofRoom, UpdateRoom};
 use std::slice::{from_raw_parts as lent, from_raw_parts_mut as room};
@@ -247,6 +249,39 @@ pub unsafe extern "C" fn second_get_id(
     device: &mut Record, challenge: *const u8, challenge_len: usize, out: *mut u8, out_len: usize,
 ) -> u8 {
     number(&device.command(|d| d.get_id(lent(challenge, challenge_len), room(out, out_len))))
+}
+
+// ---- the book
+
+/// A refusal leaves the blank book.
+#[no_mangle]
+pub unsafe extern "C" fn second_garage_open(
+    book: &mut Page, uid: *const u8, uid_len: usize, keys: *const u8, keys_len: usize, held: *const u8, held_len: usize,
+    counters: *const u32, counters_len: usize,
+) -> u8 {
+    let opened = Book::open(lent(uid, uid_len), lent(keys, keys_len), lent(held, held_len), lent(counters, counters_len));
+    *book = Page::BLANK;
+    if let Ok(new) = &opened {
+        new.write(book);
+    }
+    number(&opened)
+}
+
+#[no_mangle]
+pub unsafe extern "C" fn second_garage_write(
+    book: &mut Page, target: u32, authority: u32, flags: u32, new_key: *const u8, new_key_len: usize, m1: *mut u8, m1_len: usize,
+    m2: *mut u8, m2_len: usize, m3: *mut u8, m3_len: usize,
+) -> u8 {
+    let mut update = UpdateRoom { m1: room(m1, m1_len), m2: room(m2, m2_len), m3: room(m3, m3_len) };
+    number(&book.call(|b| b.write_key(target, authority, flags, lent(new_key, new_key_len), &mut update)))
+}
+
+#[no_mangle]
+pub unsafe extern "C" fn second_garage_judge(
+    book: &mut Page, target: u32, m4: *const u8, m4_len: usize, m5: *const u8, m5_len: usize, verdict: *mut u8,
+) -> u8 {
+    let answer = book.call(|b| b.judge(target, lent(m4, m4_len), lent(m5, m5_len)));
+    number_and_byte(answer.map(u8::from), verdict)
 }
 
 // ---- a rule by itself, for those who draw records and messages

@@ -6,6 +6,7 @@
 use crate::aes::{Aes, Block};
 use crate::algorithms::{Way, MAX_BLOCKS};
 use crate::answer::{number, Answer};
+use crate::book::{Book, Page};
 use crate::device::{Device, Record};
 use crate::messages::{update, FirstBlock, Head, ProofRoom, Uid, UpdateRoom, ALL_FLAGS, MAX_COUNTER, SECRET_KEY, SLOTS};
 use crate::programs::Account;
@@ -30,10 +31,13 @@ const ABSENT: u64 = u64::MAX;
 /// The commands that use a slot and put something out.
 const SLOT_USERS: [&str; 5] = ["ENC_ECB", "DEC_ECB", "ENC_CBC", "DEC_CBC", "GENERATE_MAC"];
 
-/// What a line leaves to the next: the record, the last M1 to M3, and the last block that one of the five above put out.
+/// What a line leaves to the next: the record, the book, the last M1 to M3, the last M4 and M5, and the last block that one of the
+/// five above put out.
 pub struct Bench {
     record: Record,
+    page: Page,
     sent: Vec<u8>,
+    proof: Vec<u8>,
     block: Block,
 }
 
@@ -68,11 +72,16 @@ fn byte(number: u64) -> u8 {
     number.min(255) as u8
 }
 
+/// For one of 32 bits likewise.
+fn word(number: u64) -> u32 {
+    number.min(u32::MAX.into()) as u32
+}
+
 // ---- what is lent
 
-/// The first bytes of a buffer, or all.
-fn front(bytes: &[u8], length: u64) -> &[u8] {
-    &bytes[..length.min(bytes.len() as u64) as usize]
+/// The first of a buffer, or all.
+fn front<T>(items: &[T], length: u64) -> &[T] {
+    &items[..length.min(items.len() as u64) as usize]
 }
 
 fn front_mut(bytes: &mut [u8], length: u64) -> &mut [u8] {
@@ -297,11 +306,41 @@ fn prepared(last: u8, flags: u64) -> Record {
     record
 }
 
+/// A place past the end of a field is counted from its front again, and a field past the last is the last.
+fn set(record: &mut Record, [field, place, value]: [u64; 3]) {
+    if field == 1 {
+        record.counters[place as usize % SLOTS] = value as u32;
+        return;
+    }
+    let bytes: &mut [u8] = match field {
+        0 => &mut record.keys,
+        2 => &mut record.flags,
+        3 => &mut record.empty,
+        4 => &mut record.uid,
+        5 => &mut record.seed,
+        6 => &mut record.state,
+        7 => &mut record.rngkey,
+        _ => &mut record.marks,
+    };
+    bytes[place as usize % bytes.len()] = byte(value);
+}
+
+// ---- the book
+
+/// A book with what a record holds, so much of it as a line lends, and past that what stands behind it or zeros. Empty marks are
+/// turned, so that one that is neither on nor off gives another such.
+fn opened(record: &Record, n: &Numbers) -> Answer<Book> {
+    let keys = [&record.keys[..], &[0; 16]].concat();
+    let held: Vec<u8> = record.empty.iter().map(|empty| empty ^ 1).chain([1]).collect();
+    let uid = [&record.uid[..], &[0]].concat();
+    Book::open(front(&uid, n[0]), front(&keys, n[1]), front(&held, n[2]), front(&record.counters[1..], n[3]))
+}
+
 // ---- lines
 
 impl Bench {
     pub fn new() -> Bench {
-        Bench { record: Record::BLANK, sent: vec![0; 64], block: [0; 16] }
+        Bench { record: Record::BLANK, page: Page::BLANK, sent: vec![0; 64], proof: vec![0; 48], block: [0; 16] }
     }
 
     /// What must be written for a line.
@@ -332,9 +371,12 @@ impl Bench {
             "MAKE" => self.make(n),
             "DEVICE" => (None, ": made".to_string() + &self.renew(prepared(byte(n[0]), n[1]))),
             "SET" => {
-                self.set(n);
+                set(&mut self.record, [n[0], n[1], n[2]]);
                 (None, String::new())
             }
+            "BOOK" => self.open_book(n),
+            "LETTER" => self.letter(n),
+            "RECEIPT" => self.receipt(n),
             _ if SLOT_USERS.contains(&name) => self.use_slot(name, n),
             _ => (None, self.show(name, n)),
         }
@@ -388,8 +430,13 @@ impl Bench {
         if n[0] != ABSENT {
             self.sent = message(&self.record, n);
         }
-        let sent = self.sent.clone();
-        self.change_and_give(|record| load(record, &sent, n))
+        let (sent, mut proof) = (self.sent.clone(), filler(48));
+        let end = self.change_and_give(|record| {
+            proof = load(record, &sent, n)?;
+            Ok(proof.clone())
+        });
+        self.proof = proof;
+        end
     }
 
     /// The buffers are the last messages also where they are as they were.
@@ -400,6 +447,7 @@ impl Bench {
         let mut proof = ProofRoom { m4: front_mut(m4, n[3]), m5: front_mut(m5, n[4]) };
         let answer = self.record.command(|d| d.export_ram_key(&mut update, &mut proof));
         self.sent = rooms[..3].concat();
+        self.proof = rooms[3..].concat();
         end(answer.map(|()| shown(&rooms.concat())))
     }
 
@@ -415,23 +463,44 @@ impl Bench {
         changes
     }
 
-    /// A place past the end of a field is counted from its front again, and a field past the last is the last.
-    fn set(&mut self, n: &Numbers) {
-        let record = &mut self.record;
-        if n[0] == 1 {
-            record.counters[n[1] as usize % SLOTS] = n[2] as u32;
-            return;
+    fn open_book(&mut self, n: &Numbers) -> End {
+        let mut told = self.record.clone();
+        if n[4] != ABSENT {
+            set(&mut told, [n[4], n[5], n[6]]);
         }
-        let field: &mut [u8] = match n[0] {
-            0 => &mut record.keys,
-            2 => &mut record.flags,
-            3 => &mut record.empty,
-            4 => &mut record.uid,
-            5 => &mut record.seed,
-            6 => &mut record.state,
-            7 => &mut record.rngkey,
-            _ => &mut record.marks,
+        let opened = opened(&told, n);
+        self.page = Page::BLANK;
+        if let Ok(book) = &opened {
+            book.write(&mut self.page);
+        }
+        let end = if opened.is_ok() { format!(", held {}", hex(&self.page.held)) } else { ", blank book".to_string() };
+        (Some(number(&opened)), named(&opened) + &end)
+    }
+
+    /// A refusal leaves the last messages, and a letter takes the place of M1 to M3 alone.
+    fn letter(&mut self, n: &Numbers) -> End {
+        let (key, target) = (slot_key(byte(n[0])), word(n[0]));
+        let mut rooms = [16, 32, 16].map(filler);
+        let [m1, m2, m3] = &mut rooms;
+        let mut room = UpdateRoom { m1: front_mut(m1, n[4]), m2: front_mut(m2, n[5]), m3: front_mut(m3, n[6]) };
+        let answer = self.page.call(|book| book.write_key(target, word(n[1]), word(n[2]), front(&key, n[3]), &mut room));
+        end(answer.map(|()| {
+            self.sent = rooms.concat();
+            format!("{}, counter {}", shown(&self.sent), self.page.new_counters[target as usize])
+        }))
+    }
+
+    fn receipt(&mut self, n: &Numbers) -> End {
+        let (mut proof, target) = (self.proof.clone(), word(n[0]));
+        flip(&mut proof, n[1]);
+        let answer = self.page.call(|book| book.judge(target, front(&proof[..32], n[2]), front(&proof[32..], n[3])));
+        let end = match answer {
+            Ok(true) => {
+                let (held, counter) = (self.page.held[target as usize], self.page.counters[target as usize]);
+                format!(", gives 1, held {held}, counter {counter}")
+            }
+            _ => ", gives 0, nothing changed".to_string(),
         };
-        field[n[1] as usize % field.len()] = byte(n[2]);
+        (Some(number(&answer)), named(&answer) + &end)
     }
 }

@@ -78,7 +78,7 @@ pub struct Device {
 }
 
 /// A mark is a byte, 1 for on and 0 for off (house); another byte is none.
-fn mark(byte: u8) -> Option<bool> {
+pub fn mark(byte: u8) -> Option<bool> {
     match byte {
         0 => Some(false),
         1 => Some(true),

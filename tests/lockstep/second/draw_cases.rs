@@ -11,6 +11,9 @@ const NONE: u64 = 999_999;
 /// The largest counter.
 const MOST: u64 = MAX_COUNTER as u64;
 
+/// The right lengths.
+const M1_TO_M5: [u64; 5] = [16, 32, 16, 32, 16];
+
 pub fn portion(seed: u64, number: u64) -> String {
     let mut random = Random::of_part(seed, number);
     draw::portion(std::iter::from_fn(|| Some(day(&mut random))))
@@ -19,6 +22,9 @@ pub fn portion(seed: u64, number: u64) -> String {
 /// All lines of one device, with a look at it in the end.
 fn day(random: &mut Random) -> String {
     let mut lines = vec![beginning(random)];
+    if !random.one_in(4) {
+        lines.push(book(random));
+    }
     if random.one_in(4) {
         lines.extend((0..random.below(8)).map(|_| line(random)));
         lines.push(damage(random));
@@ -48,7 +54,7 @@ fn damage(random: &mut Random) -> String {
 }
 
 fn line(random: &mut Random) -> String {
-    match random.below(48) {
+    match random.below(56) {
         0..=2 => one_block("ENC_ECB", random),
         3..=4 => one_block("DEC_ECB", random),
         5..=6 => chain("ENC_CBC", random),
@@ -66,6 +72,8 @@ fn line(random: &mut Random) -> String {
         42 => "DEBUGGER attached".to_string(),
         43..=45 => boot(random),
         46 => random.one_of(&["BOOT_FAILURE", "BOOT_OK"]).to_string(),
+        47..=48 => book(random),
+        49..=54 => round(random),
         _ => strange(random),
     }
 }
@@ -121,10 +129,10 @@ fn boot(random: &mut Random) -> String {
     format!("{before}SECURE_BOOT with {size} bytes, bit {changed} changed{after}")
 }
 
-/// How much of M1 to M5 is lent, mostly left out.
-fn lengths(random: &mut Random) -> String {
+/// How much of each buffer is lent, mostly left out.
+fn lengths<const BUFFERS: usize>(right: [u64; BUFFERS], random: &mut Random) -> String {
     if random.one_in(5) {
-        [16, 32, 16, 32, 16].map(|right| format!(" {}", length(right, random))).concat()
+        right.map(|right| format!(" {}", length(right, random))).concat()
     } else {
         String::new()
     }
@@ -142,11 +150,39 @@ fn load(random: &mut Random) -> String {
     let uid = random.one_of(&[1, 1, 1, 0, 0, 2]);
     let [first, sent] = [128, 512].map(|bits| if random.one_in(5) { random.below(bits) } else { NONE });
     let asked = format!("LOAD_KEY {target} by {authority}, counter {counter}, flags {flags}, UID {uid}");
-    format!("{asked}, bits {first} and {sent} changed{}", lengths(random))
+    format!("{asked}, bits {first} and {sent} changed{}", lengths(M1_TO_M5, random))
+}
+
+/// A book opened with what the device holds, or sometimes with a byte or a counter told otherwise.
+fn book(random: &mut Random) -> String {
+    let [uid, keys, marks, counters] = [15, 240, 15, 13].map(|right| length(right, random));
+    let asked = format!("BOOK with UID of {uid}, keys of {keys}, {marks} marks, {counters} counters");
+    if random.one_in(3) {
+        let (field, place) = (random.one_of(&[0, 1, 1, 1, 3, 3, 3, 4]), random.below(15));
+        let value = random.one_of(&[0, 1, 1, 3, MOST - 1, MOST, MOST + 1]);
+        return format!("{asked}, field {field}, place {place}, told as {value}");
+    }
+    asked
+}
+
+/// A letter, mostly given to the device, and its receipt, which comes twice: for another target at times, or with a bit changed.
+/// A letter for the target before it, by the target itself, is lost at times.
+fn round(random: &mut Random) -> String {
+    let (target, authority) = allowed_pair(random);
+    let (wide, wide_too, any_slot, any_bit) = (random.below(300), random.below(300), random.below(17), random.below(384));
+    let (target, authority) = if random.one_in(8) { (wide, wide_too) } else { (target.into(), authority.into()) };
+    let flags = random.one_of(&[0, 0, 0, 0, 2, 3, 31, 32, 256]);
+    let lost = if random.one_in(6) { format!("LETTER {target} by {target}, flags 0\n") } else { String::new() };
+    let sent = format!("{lost}LETTER {target} by {authority}, flags {flags}{}", lengths([16, 16, 32, 16], random));
+    let loaded = random.one_of(&["LOAD_KEY\n", "LOAD_KEY\n", "LOAD_KEY\n", ""]);
+    let named = random.one_of(&[target, target, target, any_slot]);
+    let changed = random.one_of(&[NONE, NONE, any_bit]);
+    let judged = format!("RECEIPT of {named}, bit {changed} changed{}", lengths([32, 16], random));
+    format!("{sent}\n{loaded}{judged}\nRECEIPT of {target}")
 }
 
 fn export(random: &mut Random) -> String {
-    format!("EXPORT_RAM_KEY{}", lengths(random))
+    format!("EXPORT_RAM_KEY{}", lengths(M1_TO_M5, random))
 }
 
 /// Lines that nobody should write, but that both must read alike: no command, a row that isn't there, a number for which 64 bits

@@ -9,6 +9,7 @@
 pub mod aes;
 pub mod algorithms;
 pub mod answer;
+pub mod book;
 pub mod c;
 pub mod device;
 pub mod messages;

@@ -12,6 +12,7 @@
 mod aes;
 mod algorithms;
 mod answer;
+mod book;
 mod cases;
 mod device;
 mod draw;

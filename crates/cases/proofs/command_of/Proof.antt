@@ -6,10 +6,10 @@ use Rattle.cases.proofs.command_of.Statement.{statement}
 use Rattle.cases.proofs.command_of.Tie as tie
 
 abbrev Inv-loop : tie.InvT-loop
-Inv-loop line name number₀ t4 number = number ≤ 25
+Inv-loop line name number₀ t4 number = number ≤ 28
 
 abbrev μ-loop : tie.MeasureT-loop
-μ-loop line name number₀ t4 number = 25 - number
+μ-loop line name number₀ t4 number = 28 - number
 
 before-requires : tie.Need-before-requires Inv-loop μ-loop
 before-requires c κs = search needs

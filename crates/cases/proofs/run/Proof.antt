@@ -15,6 +15,9 @@ abbrev μ-loop : tie.MeasureT-loop
 blank-requires : tie.Need-blank-requires Inv-loop μ-loop
 blank-requires c κs = search needs
 
+blank-book-requires : tie.Need-blank-book-requires Inv-loop μ-loop
+blank-book-requires c κs = search needs
+
 loop-holds : tie.Need-loop-holds Inv-loop μ-loop
 loop-holds c = search needs
 
@@ -44,6 +47,7 @@ run-spec =
     Inv-loop
     μ-loop
     blank-requires
+    blank-book-requires
     loop-holds
     before-requires
     run-line-requires
