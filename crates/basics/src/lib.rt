@@ -1,5 +1,5 @@
-// What every layer above the engine shares: the numbers of the answers, marks, numbers that come in wide, and texts read and compared
-// whatever their lengths are.
+// What every layer above the engine shares: the numbers of the answers, marks, numbers that come in wide, and texts read and
+// compared whatever their lengths are.
 ghost use mathlib.Core.Path.{_≡_};
 ghost use Rattle.laws.specs.Same.{same};
 ghost use Rattle.aes.specs.State.{byte, Bytes};

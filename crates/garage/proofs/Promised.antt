@@ -1,5 +1,5 @@
--- What the foreman can rely on holds. A call changes a line in one of three ways (`Change`); over a day each theorem is an induction
--- on its calls.
+-- What the foreman can rely on holds. A call changes a line in one of three ways (`Change`); over a day each theorem is an
+-- induction on its calls.
 -- Assumes nothing.
 use mathlib.Core.Path.{_≡_, refl, sym, ap, _∙_, subst}
 use mathlib.Core.Bool.{Bool, true, false, cond, _&&_, false≢true}

@@ -61,8 +61,8 @@ pub record OverTime : Type 0 where
   -- key and counter change only by a yes for their slot
   pub only-by-yes : (b : Book) (calls : List Call) (slot : ℕ) → InUse b → count (saidYes slot) (run b calls) ≡ 0
       → settledLine (lineAt (after b (run b calls)) slot) ≡ settledLine (lineAt b slot)
-  -- to what was written last for it: after a message was written for a slot, and calls that neither write for it nor judge it with a
-  -- yes, a yes puts that message's key and counter into the book
+  -- to what was written last for it: after a message was written for a slot, and calls that neither write for it nor judge it
+  -- with a yes, a yes puts that message's key and counter into the book
   pub to-the-last-written : (b : Book) (target authority flags : ℕ) (key b1 b2 b3 m4 m5 : List ℕ) (calls : List Call) → InUse b
       → let written = writing b target authority flags key b1 b2 b3 in
       let day = run (written .book) calls in

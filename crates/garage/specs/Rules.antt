@@ -1,5 +1,5 @@
--- The rules of the book, each in one place: the counter of a new message, the secret that it is written under, and whether a pair can
--- have one.
+-- The rules of the book, each in one place: the counter of a new message, the secret that it is written under, and whether a pair
+-- can have one.
 -- Assumes nothing.
 use mathlib.Core.Bool.{Bool, not, cond, _&&_}
 use mathlib.Core.List.{List, [], _∷_}

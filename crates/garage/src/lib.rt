@@ -1,9 +1,9 @@
 // The foreman's book about one bus: opened with what is known of the bus, it writes the key messages and judges the proofs that
 // come back. `include/garage.h` declares what C calls.
 //
-// A book is plain data that anyone could have filled, so nothing in it is believed before `is_open`. Numbers come in as wide as C has
-// them, and one that is too wide is the largest of its place and never its last digits: the promises are of the number as it came
-// in. So target 0x11 is no target here.
+// A book is plain data that anyone could have filled, so nothing in it is believed before `is_open`. Numbers come in as wide as C
+// has them, and one that is too wide is the largest of its place and never its last digits: the promises are of the number as it
+// came in. So target 0x11 is no target here.
 ghost use mathlib.Core.Path.{_≡_};
 ghost use mathlib.Core.Bool.{true, cond};
 ghost use mathlib.Core.List.{_∷_, []};
@@ -329,8 +329,8 @@ fn counters_by_slot(counters: &[u32]) -> [u32; 15]
     store
 }
 
-// A book for the bus of this UID: the keys of slots 0 to 14 with a mark for each, on where it is held, and the last counters of slots
-// 1 to 13. Where it is refused, the blank book.
+// A book for the bus of this UID: the keys of slots 0 to 14 with a mark for each, on where it is held, and the last counters of
+// slots 1 to 13. Where it is refused, the blank book.
 pub fn open(uid: &[u8], keys: &[u8], held: &[u8], counters: &[u32]) -> Reply
     ensures { λ r. ⌜ outcome (r .answer) (r .book) 0 [] ≡ opening (now (uid .entry)) (now (keys .entry)) (now (held .entry)) (now (counters .entry)) ⌝ }
 {
@@ -380,8 +380,8 @@ fn write_answer(book: Book, lengths: bool, flags: u8, target: u8, authority: u8)
     pair_answer(book, target, authority)
 }
 
-// M1 to M3 for the bus of this book, with the next counter of the target. The message waits for its proof then, in place of one that
-// waited.
+// M1 to M3 for the bus of this book, with the next counter of the target. The message waits for its proof then, in place of one
+// that waited.
 pub fn write(
     book: Book,
     target: u32,

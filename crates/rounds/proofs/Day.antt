@@ -1,5 +1,5 @@
--- A day of book and board: each slot is level, or the board is ahead. What a call of the board leaves is the third demand's; what a call
--- of the book leaves of its lines, the book's own theorems'.
+-- A day of book and board: each slot is level, or the board is ahead. What a call of the board leaves is the third demand's; what
+-- a call of the book leaves of its lines, the book's own theorems'.
 -- Assumes nothing.
 use mathlib.Core.Path.{_≡_, refl, sym, ap, _∙_, subst}
 use mathlib.Core.Bool.{Bool, true, false, cond, _&&_, false≢true}

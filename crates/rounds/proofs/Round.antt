@@ -1,5 +1,5 @@
--- A message that waits: if the board takes it, the board is ahead, and the proof gets a yes. And a round: what the book writes waits
--- so, and loads where book and board agree.
+-- A message that waits: if the board takes it, the board is ahead, and the proof gets a yes. And a round: what the book writes
+-- waits so, and loads where book and board agree.
 -- Assumes nothing.
 use mathlib.Core.Path.{_≡_, refl, sym, ap, _∙_, subst}
 use mathlib.Core.Bool.{Bool, true, false, cond, _||_, false≢true}
@@ -50,7 +50,7 @@ use Rattle.demands.proofs.Lives.{built-loads}
 use Rattle.demands.proofs.Third.{puts-one}
 use Rattle.rounds.specs.InStep.{SameKey, Agree, Ahead}
 use Rattle.rounds.specs.Rounds.{Order, written, delivered, judged, BothHold, Round, Waiting}
-use Rattle.rounds.proofs.Taken.{built-taken, rules-held}
+use Rattle.rounds.proofs.Taken.{built-taken}
 
 -- ---- the secret is the same, or what an empty slot counts as
 same-secret : (b : Book) (d : Device) (a : ℕ) → SameKey b d a → secretOf b a ≡ authorityKey d a
@@ -119,10 +119,6 @@ module _ (b : Book) (d : Device) (t : ℕ) (m1 m2 m3 : List ℕ) (in-use : InUse
 
     as-made : given made .answer ≡ noError
     as-made = ap (λ (s : Sent). given s .answer) (w .built) ∙ success
-
-    pub rules : Rules d (b .uid) t (lineAt b t .authority) (lineAt b t .newcounter)
-    rules = rules-held machine first third d sound (b .uid) (line .newkey) t (line .authority) (line .newcounter) (w .flags)
-        (in-use .0 .uid-long) carried (known .0 .allows) b4 b5 as-made
 
     pub took : machine d (load-key m1 m2 m3 b4 b5)
         ≡ keyLoaded d t (lineAt b t .authority) (lineAt b t .newcounter) (w .flags) (lineAt b t .newkey)

@@ -75,6 +75,3 @@ module _ (machine : Machine) (first : Demand1 flagCount machine) (third : Demand
     built-taken =
         let l = each-right five right in
         built-loads flagCount machine third d sound uid key t a c f long carried told b4 b5 (l 3) (l 4)
-
-    pub rules-held : Rules d uid t a c
-    rules-held = told

@@ -1,5 +1,5 @@
--- What book and board do together: a round, in which the book writes a message, the board is given it, and the book judges the proof
--- that comes back; and a day of rounds, in any order over the slots, with all that may lie between.
+-- What book and board do together: a round, in which the book writes a message, the board is given it, and the book judges the
+-- proof that comes back; and a day of rounds, in any order over the slots, with all that may lie between.
 -- Assumes nothing.
 use mathlib.Core.Path.{_≡_}
 use mathlib.Core.Bool.{true, false}
@@ -103,9 +103,10 @@ abbrev pub day : Machine → List Event → Book × Device → Book × Device
 day machine [] s = s
 day machine (event ∷ events) s = day machine events (happens machine event s)
 
--- what may happen. Anything is written, but no message in place of one that the board has taken already, unless its proof was judged;
--- a message that waits is delivered, also twice, or is lost; a yes is given for nothing but what the board has taken; and any call
--- of the board, a reset or another, but one that loads a slot from 1 to 13: be it that it loads none, or that it is refused
+-- what may happen. Anything is written, but no message in place of one that the board has taken already, unless its proof was
+-- judged; a message that waits is delivered, also twice, or is lost; a yes is given for nothing but what the board has taken; and
+-- any call of the board, a reset or another, but one that loads a slot from 1 to 13: be it that it loads none, or that it is
+-- refused
 abbrev pub MayHappen : Machine → Event → Book × Device → Type 0
 MayHappen machine (write o) s = Ahead (s .0) (s .1) (o .target) → ⊥
 MayHappen machine (deliver target m1 m2 m3 b4 b5) s = Waiting (s .0) (s .1) target m1 m2 m3
