@@ -88,7 +88,7 @@ if-either : (t x y : Bool) → (t ≡ true → x ≡ true) → (t ≡ false → 
 if-either true x y p q = p refl
 if-either false x y p q = q refl
 
-and-true : (a b : Bool) → a ≡ true → b ≡ true → (a && b) ≡ true
+pub and-true : (a b : Bool) → a ≡ true → b ≡ true → (a && b) ≡ true
 and-true true true p q = refl
 and-true true false p q = q
 and-true false b p q = p

@@ -28,7 +28,7 @@ use Rattle.garage.specs.declared.Book.{Book}
 use Rattle.garage.specs.declared.Line.{Line}
 use Rattle.garage.proofs.Called.{writeLong, writable, write-refused, judgeLong, judge-refused}
 use Rattle.garage.proofs.Lines.{besides}
-use Rattle.garage.proofs.Opened.{open-book}
+use Rattle.garage.proofs.Opened.{and-true, open-book}
 use Rattle.garage.proofs.Steps.{WriteCase, write-refusal, write-success, write-case, JudgeCase, judge-refusal, judge-no, judge-yes, judge-case, a-yes, Place, here, elsewhere, note-place, note-in-use, take-place, taken-counter, take-in-use}
 
 -- ---- what a call does to a line
@@ -38,10 +38,6 @@ pub data Change (b : Book) (call : Call) (slot : ℕ) : Type 0 where
       → lineAt (step b call .book) slot ≡ waitingLine authority counter key (lineAt b slot) → Change b call slot
   takes : saidYes slot (call, step b call) ≡ true → slot ≤ 14 → lineAt b slot .newcounter ≡ nextCounter b slot
       → lineAt (step b call .book) slot ≡ takenLine (lineAt b slot) → Change b call slot
-
-and-both : (a b : Bool) → a ≡ true → b ≡ true → (a && b) ≡ true
-and-both true b p q = q
-and-both false b p q = absurd (false≢true p)
 
 module _ (b : Book) (in-use : InUse b) where
   write-changes : (target authority flags : ℕ) (key b1 b2 b3 : List ℕ) (slot : ℕ) → WriteCase b target authority flags key b1 b2 b3
@@ -60,7 +56,7 @@ module _ (b : Book) (in-use : InUse b) where
       placed : Place b (noted b target authority key) target (waitingLine authority (nextCounter b target) key (lineAt b target)) slot
           → Change b (write target authority flags key b1 b2 b3) slot
       placed (here is line) =
-          gets-message (and-both _ _ (eq-eqb target slot (sym is)) (eq-eqb _ 0 zero-out)) authority (nextCounter b target) key
+          gets-message (and-true _ _ (eq-eqb target slot (sym is)) (eq-eqb _ 0 zero-out)) authority (nextCounter b target) key
           (ap (λ (x : Book). lineAt x slot) e ∙ line ∙ ap (λ (s : ℕ). waitingLine authority (nextCounter b target) key (lineAt b s)) (sym is))
       placed (elsewhere other line) = stays (ap (λ (x : Book). lineAt x slot) e ∙ line)
 
@@ -80,7 +76,7 @@ module _ (b : Book) (in-use : InUse b) where
       placed : Place b (taken b target) target (takenLine (lineAt b target)) slot → Change b (judge target m4 m5) slot
       placed (here is line) =
           let yes = a-yes b target m4 m5 (sym (ap (λ (o : Outcome). o .verdict) e)) in
-          takes (and-both _ _ (eq-eqb target slot (sym is)) (eq-eqb _ 1 (sym (ap (λ (o : Outcome). o .verdict) e))))
+          takes (and-true _ _ (eq-eqb target slot (sym is)) (eq-eqb _ 1 (sym (ap (λ (o : Outcome). o .verdict) e))))
           (subst (λ (s : ℕ). s ≤ 14) (sym is) (yes .well .last))
           (subst (λ (s : ℕ). lineAt b s .newcounter ≡ nextCounter b s) (sym is) (taken-counter b in-use target (yes .well .last) (yes .waited)))
           (sym (ap (λ (o : Outcome). lineAt (o .book) slot) e) ∙ line ∙ ap (λ (s : ℕ). takenLine (lineAt b s)) (sym is))
