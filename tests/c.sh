@@ -3,22 +3,8 @@
 # its last line is printed here. The last line is 'C: N passed, M failed', and the status is 0 only where M is 0.
 set -u
 cd "$(dirname "$0")/.." || exit 2
-out=target/native
-mkdir -p "$out"
-passed=0 failed=0
-
-run() { # NAME COMMAND..: passes where the status is 0
-    name=$1
-    shift
-    if "$@" >"$out/$name.log" 2>&1; then
-        passed=$((passed + 1))
-        echo "C: $name: $(tail -n 1 "$out/$name.log")"
-    else
-        failed=$((failed + 1))
-        echo "C: FAILED: $name"
-        tail -n 30 "$out/$name.log"
-    fi
-}
+out=target/native what=C
+. tests/steps.sh
 
 # Each header alone, in every language that may include it, and for a controller of 32 bits.
 headers() {
@@ -70,14 +56,6 @@ demo() { # PROGRAM: it writes what it should, line by line
     "$@" >"$out/yard.out" && cmp "$out/yard.out" demo/yard.txt && tail -n 1 "$out/yard.out"
 }
 
-limit="timeout 600"
-memory="$limit valgrind --quiet --error-exitcode=9 --leak-check=full"
-# gcc's checkers want their addresses free, which some kernels' random places are not; leaks are valgrind's to find.
-checked="$limit env ASAN_OPTIONS=detect_leaks=0"
-if setarch "$(uname -m)" -R true 2>/dev/null; then
-    checked="$checked setarch $(uname -m) -R"
-fi
-
 run build sh tools/build-c.sh
 run headers headers
 run symbols symbols
@@ -94,5 +72,4 @@ run sweeps-checked $checked "$out/lockstep-checked" sweeps 2
 run published-valgrind $memory "$out/lockstep" --exact published tests/published.txt
 run sequences-valgrind $memory "$out/lockstep" --exact --some 3 1500
 run shipped sh tests/lockstep/shipped.sh
-echo "C: $passed passed, $failed failed"
-[ "$failed" -eq 0 ]
+finish

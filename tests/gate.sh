@@ -1,9 +1,9 @@
 #!/bin/sh
 # The gate: everything is proved from nothing, the must-fail edits are refused and their twins accepted, the programs write what
-# they should, the files are in the layout, the tests beside the proofs and those from C pass, and no public routine lacks its
-# promise in docs/. What each part compares with what is in tests/README.md. While a part runs, a line now and then says that it lives
-# (tools/watch.sh); afterwards a line for each of its steps is written, or, where it failed, its last two hundred lines, and how
-# long it took. The last line is 'N passed, M failed', and the status is 0 only where M is 0.
+# they should, the files are in the layout, the tests beside the proofs, those from C and those of the foreman's command pass, and
+# no public routine lacks its promise in docs/. What each part compares with what is in tests/README.md. While a part runs, a line now
+# and then says that it lives (tools/watch.sh); afterwards a line for each of its steps is written, or, where it failed, its last two
+# hundred lines, and how long it took. The last line is 'N passed, M failed', and the status is 0 only where M is 0.
 set -u
 cd "$(dirname "$0")/.." || exit 2
 passed=0 failed=0
@@ -60,6 +60,7 @@ part "the wrong programs and the faults, held to what they edit" python3 tests/w
 part "the pages, held to the files" python3 tests/pages.py
 part "the twins of the must-fail edits" python3 tests/wrong/shams.py --gate
 part "the libraries as C has them" sh tests/c.sh
+part "the foreman's command, as he runs it" sh tests/garage/all.sh
 part "the proved programs beside the second one" sh tests/lockstep/programs.sh
 
 echo "$passed passed, $failed failed"

@@ -17,8 +17,9 @@ has one. (`rt` passes over `of:`, `why:` and `right:`.)
 
 Of the routines that take a record in place, two wrong programs each are made by tools/in_place.py and stand in no file.
 
-A fault of tests/wrong/faults.txt is a name, a file of tests/lockstep/second/, and a text that stands there exactly once and is
-replaced:
+A fault of tests/wrong/faults.txt is a name, a file of the second program, tests/lockstep/second/, and a text that stands there exactly
+once and is replaced. Those of tests/garage/faults.txt are of the foreman's command, garage/, and the name ends with the test that must
+see it.
 
     == name
     -- file
@@ -27,7 +28,7 @@ replaced:
     other text
 
 Run by itself, it writes each edit that no longer fits the crates, each that lacks a twin or a reason, and each fault that no longer
-fits the second program. The status is 0 only where there is none.
+fits its program. The status is 0 only where there is none.
 """
 import pathlib
 import re
@@ -38,6 +39,9 @@ sys.path.append(str(ROOT / "tools"))
 import in_place  # noqa: E402
 
 GATE, SHAMS = "crates/*/must-fail/*.edit", "tests/wrong/*/*.edit"
+# a list of faults, and the folder of the program that they are of
+LIBRARY_FAULTS = ("tests/wrong/faults.txt", "tests/lockstep/second")
+COMMAND_FAULTS = ("tests/garage/faults.txt", "garage")
 
 
 class Stale(Exception):
@@ -127,9 +131,9 @@ def all_edits():
     return [read_edit(path) for pattern in (GATE, SHAMS) for path in sorted(ROOT.glob(pattern))] + list(made_edits())
 
 
-def read_faults():
+def read_faults(list_of_faults):
     """name, file, text and other text of each"""
-    for part in re.split(r"^== ", (ROOT / "tests" / "wrong" / "faults.txt").read_text(), flags=re.M)[1:]:
+    for part in re.split(r"^== ", (ROOT / list_of_faults[0]).read_text(), flags=re.M)[1:]:
         name, file, change = part.split("\n", 2)
         old, new = re.split(r"^\+\+\n", change, maxsplit=1, flags=re.M)
         yield name, file.removeprefix("-- "), old.rstrip("\n"), new.rstrip("\n")
@@ -150,11 +154,12 @@ def troubles(edits):
             yield f"{edit} adds a function or changes a proof, and has no twin"
         if any(right is not None and functions(right) != functions(new) for *_, new, right in edit.changes):
             yield f"the twin of {edit} has other functions"
-    for name, file, old, _ in read_faults():
-        try:
-            replaced((ROOT / "tests" / "lockstep" / "second" / file).read_text(), old, "", f"the fault '{name}', {file}")
-        except Stale as stale:
-            yield str(stale)
+    for faults in (LIBRARY_FAULTS, COMMAND_FAULTS):
+        for name, file, old, _ in read_faults(faults):
+            try:
+                replaced((ROOT / faults[1] / file).read_text(), old, "", f"the fault '{name}', {file}")
+            except Stale as stale:
+                yield str(stale)
 
 
 def main():
@@ -163,7 +168,7 @@ def main():
     for trouble in found:
         print(f"edits: {trouble}")
     twins = sum(edit.has_twin() for edit in edits)
-    count = len(list(read_faults()))
+    count = sum(len(list(read_faults(faults))) for faults in (LIBRARY_FAULTS, COMMAND_FAULTS))
     print(f"edits: {len(edits)} wrong programs, {twins} with a twin, {count} faults, {len(found)} that do not fit")
     return 1 if found else 0
 

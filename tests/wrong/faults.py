@@ -15,7 +15,7 @@ import subprocess
 import sys
 import tempfile
 
-from edits import ROOT, read_faults, replaced
+from edits import LIBRARY_FAULTS, ROOT, read_faults, replaced
 
 NATIVE = ROOT / "target" / "native"
 
@@ -85,7 +85,7 @@ def main():
     seed, sequences, word = (sys.argv[1:] + ["1", "4500", ""][len(sys.argv) - 1:])[:3]
     if subprocess.run(["sh", "tools/build-c.sh"], cwd=ROOT).returncode:
         return 1
-    faults = [fault for fault in read_faults() if word in fault[0]]
+    faults = [fault for fault in read_faults(LIBRARY_FAULTS) if word in fault[0]]
     with tempfile.TemporaryDirectory() as folder:
         missed = try_all(faults, pathlib.Path(folder), seed, sequences)
     if missed is None:

@@ -1,0 +1,62 @@
+/* A command line taken apart, and its verb performed; the help, from the table of verbs. */
+#include "command.h"
+
+#include <fcntl.h>
+#include <signal.h>
+#include <stdio.h>
+#include <string.h>
+#include <sys/resource.h>
+#include <unistd.h>
+
+/* A full file, or a pipe that nobody reads, is to be told, and not to end the program. A closed standard output must not become the
+ * number of a file that keys are written to. And neither a core file nor a buffer is to keep them. */
+static void settle(void)
+{
+    signal(SIGPIPE, SIG_IGN);
+    signal(SIGXFSZ, SIG_IGN);
+    setrlimit(RLIMIT_CORE, &(struct rlimit){0, 0});
+    setvbuf(stdout, NULL, _IONBF, 0);
+    while ((unsigned)open("/dev/null", O_RDONLY | O_CLOEXEC) < STDERR_FILENO)
+        continue;
+}
+
+/* All of a verb's, or the first line of each, its usage. */
+static int help(const char *about, const struct verb *verb)
+{
+    struct text text = {0};
+    if (about == NULL)
+        add(&text, "usage: %s", verb->help);
+    else
+        for (add(&text, "%s", about); verb->name != NULL; verb++)
+            add(&text, "    %.*s\n", (int)strcspn(verb->help, "\n"), verb->help);
+    print(NULL, &text);
+    return DONE;
+}
+
+int command(const char *name, const char *about, const struct verb *verbs, const struct option *options, int count, char **words)
+{
+    struct order order = {0};
+    const struct verb *verb = verbs;
+    program = name;
+    settle();
+    for (int option; (option = getopt_long(count, words, ":", options, NULL)) >= 0; order.options[option] = optarg ? optarg : "")
+        if (option == '?' || option == ':') /* unknown, or without its value */
+            refuse(SHE_GENERAL_ERROR, "'%s' is no option, or lacks its value: see %s --help", words[optind - 1], program);
+    const char *word = optind == count ? "(nothing)" : words[optind];
+    while (verb->name != NULL && strcmp(word, verb->name) != 0)
+        verb++;
+    if (order.options[HELP] != NULL)
+        return verb->name == NULL ? help(about, verbs) : help(NULL, verb);
+    if (verb->name == NULL)
+        refuse(SHE_GENERAL_ERROR, "'%s' is no verb: see %s --help", word, program);
+    order.words = (const char *const *)words + optind + 1;
+    order.count = count - optind - 1;
+    if (order.count < verb->least || order.count > verb->most)
+        refuse(SHE_GENERAL_ERROR, "wrong number of words: it is %.*s", (int)strcspn(verb->help, "\n"), verb->help);
+    for (int i = 0; i < MOST_OPTIONS; i++)
+        if (order.options[i] != NULL && (verb->options & 1u << i) == 0)
+            refuse(SHE_GENERAL_ERROR, "--%s is no option of %s", options[i].name, word);
+    int status = verb->perform(&order);
+    wipe_secrets();
+    return status;
+}
