@@ -28,7 +28,7 @@ static struct she_device *open_board(const char *path)
     read_locked(text);
     char *at = text->bytes + strlen(head);
     if (strncmp(text->bytes, head, strlen(head)) != 0 || !is_hex(next_word(&at, "\n"), (uint8_t *)board, sizeof *board))
-        refuse(SHE_GENERAL_ERROR, "'%s' is no board", path);
+        refuse(SHE_GENERAL_ERROR, "'%.200s' is no board", path);
     return board;
 }
 

@@ -92,14 +92,14 @@ struct book *open_book(const char *path)
     *words = *text;
     char *at = words->bytes + strlen(head);
     if (strncmp(text->bytes, head, strlen(head)) != 0)
-        refuse(SHE_GENERAL_ERROR, "'%s' is no book of version 1", path);
+        refuse(SHE_GENERAL_ERROR, "'%.200s' is no book of version 1", path);
     is_hex(after(&at, "uid"), book->garage.uid, SHE_UID);
     for (uint32_t slot = 0; slot < SHE_SLOTS; slot++)
         read_slot(&at, book, slot);
     book->garage.marks[0] = 1;
     const struct text *right = text_of(book);
     if (text->length != right->length || memcmp(text->bytes, right->bytes, right->length) != 0 || !is_open(&book->garage))
-        refuse(SHE_GENERAL_ERROR, "'%s' is a damaged book", path);
+        refuse(SHE_GENERAL_ERROR, "'%.200s' is a damaged book", path);
     return book;
 }
 

@@ -3,19 +3,17 @@
 
 #include <fcntl.h>
 #include <signal.h>
-#include <stdio.h>
 #include <string.h>
-#include <sys/resource.h>
+#include <sys/prctl.h>
 #include <unistd.h>
 
 /* A full file, or a pipe that nobody reads, is to be told, and not to end the program. A closed standard output must not become the
- * number of a file that keys are written to. And neither a core file nor a buffer is to keep them. */
+ * number of a file that keys are written to. And no core file is to keep them. */
 static void settle(void)
 {
     signal(SIGPIPE, SIG_IGN);
     signal(SIGXFSZ, SIG_IGN);
-    setrlimit(RLIMIT_CORE, &(struct rlimit){0, 0});
-    setvbuf(stdout, NULL, _IONBF, 0);
+    prctl(PR_SET_DUMPABLE, 0);
     while ((unsigned)open("/dev/null", O_RDONLY | O_CLOEXEC) < STDERR_FILENO)
         continue;
 }
@@ -40,18 +38,17 @@ int command(const char *name, const char *about, const struct verb *verbs, const
     program = name;
     settle();
     for (int option; (option = getopt_long(count, words, ":", options, NULL)) >= 0; order.options[option] = optarg ? optarg : "")
-        if (option == '?' || option == ':') /* unknown, or without its value */
-            refuse(SHE_GENERAL_ERROR, "'%s' is no option, or lacks its value: see %s --help", words[optind - 1], program);
-    const char *word = optind == count ? "(nothing)" : words[optind];
+        if (option == '?' || option == ':' || order.options[option] != NULL)
+            refuse(SHE_GENERAL_ERROR, "an option is unknown, lacks its value, or is there twice: see %s --help", program);
+    const char *word = optind == count ? "" : words[optind];
     while (verb->name != NULL && strcmp(word, verb->name) != 0)
         verb++;
     if (order.options[HELP] != NULL)
         return verb->name == NULL ? help(about, verbs) : help(NULL, verb);
     if (verb->name == NULL)
-        refuse(SHE_GENERAL_ERROR, "'%s' is no verb: see %s --help", word, program);
-    order.words = (const char *const *)words + optind + 1;
-    order.count = count - optind - 1;
-    if (order.count < verb->least || order.count > verb->most)
+        refuse(SHE_GENERAL_ERROR, "there is no verb '%.200s': see %s --help", word, program);
+    order.words = words + optind + 1;
+    if (count - optind - 1 < verb->least || count - optind - 1 > verb->most)
         refuse(SHE_GENERAL_ERROR, "wrong number of words: it is %.*s", (int)strcspn(verb->help, "\n"), verb->help);
     for (int i = 0; i < MOST_OPTIONS; i++)
         if (order.options[i] != NULL && (verb->options & 1u << i) == 0)

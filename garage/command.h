@@ -18,7 +18,8 @@ extern const char *program;                                            /* its na
 _Noreturn void refuse(enum she_answer answer, const char *why, ...);   /* a line on standard error, and the program ends */
 void add(struct text *text, const char *format, ...);
 void add_hex(struct text *text, const uint8_t *bytes, size_t count);
-void print(const char *path, const struct text *text);                 /* on standard output if the path is null */
+bool write_text(int file, const struct text *text);
+void print(const char *path, const struct text *text);                 /* into a new file; on standard output if the path is null */
 void print_hex(const char *prefix, const char *part, const uint8_t *bytes, size_t count); /* a line, into PREFIX.PART or as print */
 void *secret(size_t size);                                             /* zeroed room for keys, which every end wipes */
 void wipe_secrets(void);
@@ -32,11 +33,11 @@ bool is_hex(const char *word, uint8_t *bytes, size_t count);           /* just a
 uint32_t find_slot(const char *word);                                  /* by its number or name; SHE_SLOTS for another word */
 uint32_t slot_of(const char *word);                                    /* likewise, but another word is refused */
 uint32_t find_flag(const char *word);                                  /* by its name; 0 for another word */
-uint32_t flags_of(const char *const *words);                           /* up to a null; another word, or one twice, is refused */
+uint32_t flags_of(char **words);                           /* up to a null; another word, or one twice, is refused */
 void add_flags(struct text *text, uint32_t flags);
 
 /* ---- input.c: bytes in hexadecimal digits, and texts from outside; what isn't right is refused */
-void take_bytes(const char *what, const char *word, uint8_t *bytes, size_t count); /* the digits, or where take_key has them from */
+void take_bytes(const char *what, const char *word, uint8_t *bytes, size_t count); /* digits, or from where take_key has them */
 void take_key(const char *what, const char *path, uint8_t *key);       /* - is standard input; null has the system make one */
 void end_of_input(void);                                               /* no word may be left on standard input */
 char *read_text(const char *what, const char *path, int file, struct text *text);
@@ -59,10 +60,9 @@ void add_book(struct text *text, const struct book *book, bool shows_keys);
 
 /* ---- command.c: a command line, its verb, and the help */
 enum { DONE = 0, NO = 1, REFUSED = 2 };                                /* exit status */
-enum { HELP, MOST_OPTIONS = 5 };                                       /* the first option of every program */
+enum { HELP, MOST_OPTIONS = 4 };                                       /* the first option of every program */
 struct order {
-    const char *const *words;                                          /* a null follows the last */
-    int count;
+    char **words;                                                      /* a null follows the last */
     const char *options[MOST_OPTIONS];                                 /* their values, "" for one without; null if not given */
 };
 struct verb {

@@ -6,25 +6,23 @@
 #include <string.h>
 #include <time.h>
 
-enum { KEY = HELP + 1, AGAIN, TO, KEYS };
-static const struct option options[] = {{"help", no_argument, NULL, HELP},   {"key", required_argument, NULL, KEY},
-                                        {"again", no_argument, NULL, AGAIN}, {"to", required_argument, NULL, TO},
-                                        {"keys", no_argument, NULL, KEYS},   {0}};
+enum { KEY = HELP + 1, TO, KEYS };
+static const struct option options[] = {{"help", no_argument, NULL, HELP}, {"key", required_argument, NULL, KEY},
+                                        {"to", required_argument, NULL, TO}, {"keys", no_argument, NULL, KEYS}, {0}};
 
 /* SLOT@COUNTER, SLOT@COUNTER=FILE, or SLOT=FILE for one that has no counter. Nobody may guess a counter, so none may be missing. */
 static void take_known(const char *word, struct garage_book *known)
 {
-    static bool is_named[SHE_SLOTS];
+    static uint8_t named[SHE_SLOTS];
     char *file = strcpy(secret(strlen(word) + 1), word), *counter = strsep(&file, "="); /* each null if its sign isn't there */
     uint32_t slot = slot_of(strsep(&counter, "@"));
     bool has_counter = slot != SHE_SECRET_KEY && slot != SHE_RAM_KEY;
-    if (is_named[slot])
+    if (named[slot]++ > 0)
         refuse(SHE_GENERAL_ERROR, "%s is named twice", slot_names[slot]);
-    is_named[slot] = true;
     if (has_counter ? counter == NULL : counter != NULL || file == NULL)
-        refuse(SHE_GENERAL_ERROR, "'%s' should be %s%s=FILE", word, slot_names[slot], has_counter ? "@COUNTER" : "");
+        refuse(SHE_GENERAL_ERROR, "'%.99s' should be %s%s", word, slot_names[slot], has_counter ? "@COUNTER[=FILE]" : "=FILE");
     if (has_counter && (!is_number(counter, &known->counters[slot]) || known->counters[slot] > SHE_MAX_COUNTER))
-        refuse(SHE_GENERAL_ERROR, "'%s' is no counter: a counter is a number from 0 to %d", counter, SHE_MAX_COUNTER);
+        refuse(SHE_GENERAL_ERROR, "'%.200s' is no counter: a counter is a number from 0 to %d", counter, SHE_MAX_COUNTER);
     known->held[slot] = file != NULL;
     if (file != NULL)
         take_key(slot_names[slot], file, known->keys + SHE_BLOCK * slot);
@@ -35,7 +33,7 @@ static int new_book(const struct order *order)
     struct garage_book *known = secret(sizeof *known);
     struct book *book = secret(sizeof *book);
     take_bytes("the UID", order->words[1], known->uid, SHE_UID);
-    for (int i = 2; i < order->count; i++)
+    for (int i = 2; order->words[i] != NULL; i++)
         take_known(order->words[i], known);
     uint8_t answer = wiped(garage_open(&book->garage, known->uid, SHE_UID, known->keys, GARAGE_KEYS, known->held, SHE_SLOTS,
                                        known->counters + SHE_MASTER_ECU_KEY, GARAGE_COUNTERS));
@@ -56,7 +54,7 @@ static int show_book(const struct order *order)
 
 static const char *const why_not[] = {
     [SHE_KEY_INVALID] = "no key message has that target and that authority",
-    [SHE_KEY_EMPTY] = "the book has no key of that authority",
+    [SHE_KEY_EMPTY] = "the book has no key of that authority, or no proof of it yet",
     [SHE_KEY_UPDATE_ERROR] = "the counter of that target is used up",
     [SHE_GENERAL_ERROR] = "the library refuses it",
 };
@@ -69,24 +67,21 @@ static void time_now(char text[TIME + 1])
         refuse(SHE_GENERAL_ERROR, "the clock of this machine shows no year of four digits");
 }
 
+/* Without a key the one that waits is taken, if one does: so who repeats a command gets the same message again, and no key that the
+ * bus may have taken is forgotten. */
 static int write_message(const struct order *order)
 {
     uint32_t target = slot_of(order->words[1]), authority = slot_of(order->words[2]), flags = flags_of(order->words + 3);
-    bool is_again = order->options[AGAIN] != NULL;
-    if (is_again && order->options[KEY] != NULL)
-        refuse(SHE_GENERAL_ERROR, "--again takes the key that waits, so --key can't stand beside it");
     uint8_t *key = secret(SHE_BLOCK), m1[SHE_BLOCK], m2[SHE_TWO_BLOCKS], m3[SHE_BLOCK];
     take_key("the new key", order->options[KEY], key);
-
     struct book *book = open_book(order->words[0]);
     struct garage_book *garage = &book->garage;
     const uint8_t *waiting_key = garage->newkeys + SHE_BLOCK * target;
-    if (is_again)
+    bool one_waits = garage->waits[target];
+    if (one_waits && order->options[KEY] == NULL)
         memcpy(key, waiting_key, SHE_BLOCK);
-    bool one_waits = garage->waits[target], this_waits = one_waits && garage->authorities[target] == authority
-        && book->flags[target] == flags && memcmp(waiting_key, key, SHE_BLOCK) == 0;
-    if (is_again && !this_waits)
-        refuse(SHE_GENERAL_ERROR, "no message for %s by %s with these flags waits", slot_names[target], slot_names[authority]);
+    bool this_waits = one_waits && garage->authorities[target] == authority && book->flags[target] == flags
+                   && memcmp(waiting_key, key, SHE_BLOCK) == 0;
     uint8_t answer = wiped(garage_write(garage, target, authority, flags, key, SHE_BLOCK, WHOLE(m1), WHOLE(m2), WHOLE(m3)));
     if (answer != SHE_NO_ERROR)
         refuse(answer, "%s by %s: %s", slot_names[target], slot_names[authority], why_not[answer]);
@@ -94,12 +89,13 @@ static int write_message(const struct order *order)
     if (!this_waits)
         time_now(book->since[target]);
     save_book(book, false);
-
-    if (one_waits && !this_waits)
-        fprintf(stderr, "garage: the message that waited for %s is replaced, and must not be delivered now\n", slot_names[target]);
     print_hex(order->options[TO], "m1", WHOLE(m1));
     print_hex(order->options[TO], "m2", WHOLE(m2));
     print_hex(order->options[TO], "m3", WHOLE(m3));
+    if (one_waits && !this_waits)
+        fprintf(stderr, "garage: this replaces what waited for %s, which must not be delivered any more\n", slot_names[target]);
+    if (!garage->held[authority])
+        fprintf(stderr, "garage: %s counts as empty, so whoever reads this message can read the key\n", slot_names[authority]);
     return DONE;
 }
 
@@ -128,26 +124,26 @@ static const char about[] =
 static const struct verb verbs[] = {
     {"new", 2, 2 + SHE_SLOTS, 1 << HELP, new_book,
      "garage new BOOK UID [SLOT..]\n\n"
-     "Makes the book of one bus, a file that must not be there yet. UID has 30 hexadecimal digits. A new bus has no keys;\n"
-     "of another each SLOT says what is known, the last counter and the file with the key, in 32 hexadecimal digits:\n"
+     "Makes the book of one bus, a file that must not be there yet. UID has 30 hexadecimal digits. A new bus has no keys. If this\n"
+     "one has some, each SLOT says what is known of one: the last counter, and a file with the key in 32 hexadecimal digits:\n"
      "    KEY_1@3=FILE        the counter and the key; the file - is standard input\n"
      "    KEY_1@3             the counter alone\n"
      "    SECRET_KEY=FILE     SECRET_KEY and RAM_KEY have no counter\n\n"
      "Example: garage new bus12.book 627573203132000000000000000001 MASTER_ECU_KEY@1=master.key\n"},
     {"show", 1, 1, 1 << HELP | 1 << KEYS, show_book,
      "garage show BOOK [--keys]\n\n"
-     "Shows the UID and each slot: its last counter, whether its key is held, and the message that waits for its proof, since\n"
-     "when (UTC), with its counter, authority and flags. With --keys it shows the keys too.\n\n"
+     "Shows the UID and each slot: its last counter, whether its key is held, and the message that waits for its proof, with the\n"
+     "time (UTC) when it was written, its counter, authority and flags. With --keys it shows the keys too.\n\n"
      "Example: garage show bus12.book\n"},
-    {"write", 3, 3 + 5, 1 << HELP | 1 << KEY | 1 << AGAIN | 1 << TO, write_message,
-     "garage write BOOK TARGET AUTHORITY [FLAG..] [--key FILE | --again] [--to PREFIX]\n\n"
-     "Writes the message that brings a new key into the slot TARGET, under the key that the book has of the slot AUTHORITY. It\n"
-     "waits in the book for its proof from now on, in place of one that did, and is printed: M1, M2 and M3, a line each.\n"
+    {"write", 3, 3 + 5, 1 << HELP | 1 << KEY | 1 << TO, write_message,
+     "garage write BOOK TARGET AUTHORITY [FLAG..] [--key FILE] [--to PREFIX]\n\n"
+     "Writes the message that brings a new key into the slot TARGET, under the key that the book has of the slot AUTHORITY. The\n"
+     "message is saved in the book, where it waits for its proof, and then printed: M1, M2 and M3, a line each. The same command\n"
+     "again prints the same message; another message for TARGET replaces it.\n"
      "Slots are 0 to 14, or SECRET_KEY, MASTER_ECU_KEY, BOOT_MAC_KEY, BOOT_MAC, KEY_1 to KEY_10, RAM_KEY.\n"
      "Flags are WILDCARD, KEY_USAGE, DEBUGGER, BOOT, WRITE.\n"
      "    --key FILE      the new key in 32 hexadecimal digits; - is standard input. Without it the system makes a random one\n"
-     "    --again         the message that waits, once more\n"
-     "    --to PREFIX     into the files PREFIX.m1, PREFIX.m2 and PREFIX.m3\n\n"
+     "    --to PREFIX     into the new files PREFIX.m1, PREFIX.m2 and PREFIX.m3\n\n"
      "Example: garage write bus12.book KEY_1 MASTER_ECU_KEY KEY_USAGE --to door\n"},
     {"judge", 4, 4, 1 << HELP, judge_proof,
      "garage judge BOOK TARGET M4 M5\n\n"

@@ -16,9 +16,9 @@ char *read_text(const char *what, const char *path, int file, struct text *text)
     for (; count > 0; text->length += count > 0 ? (size_t)count : 0)
         count = read(file, text->bytes + text->length, sizeof text->bytes - text->length);
     if (count < 0)
-        refuse(SHE_GENERAL_ERROR, "%s: '%s' can't be read: %s", what, path, strerror(errno));
+        refuse(SHE_GENERAL_ERROR, "%s: the file '%.200s' can't be read: %s", what, path, strerror(errno));
     if (text->length == sizeof text->bytes || memchr(text->bytes, '\0', text->length) != NULL)
-        refuse(SHE_GENERAL_ERROR, "%s: '%s' is too long, or no text", what, path);
+        refuse(SHE_GENERAL_ERROR, "%s: the file '%.200s' is too long, or no text", what, path);
     return text->bytes;
 }
 
@@ -31,25 +31,25 @@ static char *word_from(const char *what, const char *path)
         *at = read_text(what, path, is_input ? STDIN_FILENO : open(path, O_RDONLY | O_CLOEXEC), secret(sizeof(struct text)));
     char *word = next_word(at, blanks);
     if (!is_input && *next_word(at, blanks) != '\0')
-        refuse(SHE_GENERAL_ERROR, "%s: '%s' has more than one word", what, path);
+        refuse(SHE_GENERAL_ERROR, "%s: the file '%.200s' has more than one word", what, path);
     return word;
 }
 
-static void take_digits(const char *what, const char *word, uint8_t *bytes, size_t count)
+static void take_digits(const char *what, const char *source, const char *word, uint8_t *bytes, size_t count)
 {
     if (!is_hex(word, bytes, count))
-        refuse(SHE_GENERAL_ERROR, "%s should have %zu hexadecimal digits, and nothing else", what, 2 * count);
+        refuse(SHE_GENERAL_ERROR, "%s: '%.200s' should have %zu hexadecimal digits, and nothing else", what, source, 2 * count);
 }
 
 void take_bytes(const char *what, const char *word, uint8_t *bytes, size_t count)
 {
-    take_digits(what, strspn(word, hex_digits) == strlen(word) ? word : word_from(what, word), bytes, count);
+    take_digits(what, word, strspn(word, hex_digits) == strlen(word) ? word : word_from(what, word), bytes, count);
 }
 
 void take_key(const char *what, const char *path, uint8_t *key)
 {
     if (path != NULL)
-        take_digits(what, word_from(what, path), key, SHE_BLOCK);
+        take_digits(what, path, word_from(what, path), key, SHE_BLOCK);
     else if (getentropy(key, SHE_BLOCK) != 0)
         refuse(SHE_GENERAL_ERROR, "the system gives no random numbers for %s: %s", what, strerror(errno));
 }

@@ -3,6 +3,7 @@
 
 #include <ctype.h>
 #include <errno.h>
+#include <fcntl.h>
 #include <stdarg.h>
 #include <stdio.h>
 #include <string.h>
@@ -11,12 +12,11 @@
 const char *program;
 
 static const char *const answers[] = {
-    "NO_ERROR",            "SEQUENCE_ERROR",   "KEY_NOT_AVAILABLE", "KEY_INVALID",  "KEY_EMPTY", "NO_SECURE_BOOT",
-    "KEY_WRITE_PROTECTED", "KEY_UPDATE_ERROR", "RNG_SEED",          "NO_DEBUGGING", "BUSY",      "MEMORY_FAILURE",
-    "GENERAL_ERROR",
+    "NO_ERROR", "SEQUENCE_ERROR", "KEY_NOT_AVAILABLE", "KEY_INVALID", "KEY_EMPTY", "NO_SECURE_BOOT", "KEY_WRITE_PROTECTED",
+    "KEY_UPDATE_ERROR", "RNG_SEED", "NO_DEBUGGING", "BUSY", "MEMORY_FAILURE", "GENERAL_ERROR",
 };
 
-/* Words from outside may be long and hold any bytes: they are cut, and the line stays one line. */
+/* Words from outside may hold any bytes, and the line stays one line. */
 void refuse(enum she_answer answer, const char *why, ...)
 {
     char words[512];
@@ -48,11 +48,17 @@ void add_hex(struct text *text, const uint8_t *bytes, size_t count)
         add(text, "%02x", bytes[i]);
 }
 
+bool write_text(int file, const struct text *text)
+{
+    errno = file < 0 ? errno : ENOSPC; /* why only a part would be taken */
+    return file >= 0 && write(file, text->bytes, text->length) == (ssize_t)text->length;
+}
+
 void print(const char *path, const struct text *text)
 {
-    FILE *file = path != NULL ? fopen(path, "w") : stdout;
-    if (file == NULL || fwrite(text->bytes, text->length, 1, file) != 1 || fflush(file) != 0)
-        refuse(SHE_GENERAL_ERROR, "%s can't be written: %s", path != NULL ? path : "standard output", strerror(errno));
+    int file = path == NULL ? STDOUT_FILENO : open(path, O_WRONLY | O_CREAT | O_EXCL | O_CLOEXEC, 0600);
+    if (!write_text(file, text) || (path != NULL && close(file) != 0))
+        refuse(SHE_GENERAL_ERROR, "'%.200s' can't be written: %s", path == NULL ? "standard output" : path, strerror(errno));
 }
 
 void print_hex(const char *prefix, const char *part, const uint8_t *bytes, size_t count)

@@ -55,7 +55,7 @@ uint32_t slot_of(const char *word)
 {
     uint32_t slot = find_slot(word);
     if (slot == SHE_SLOTS)
-        refuse(SHE_KEY_INVALID, "'%s' is no slot: slots are 0 to 14, or by name SECRET_KEY, MASTER_ECU_KEY, KEY_1 and so on", word);
+        refuse(SHE_KEY_INVALID, "'%.99s' is no slot: slots are 0 to 14, or by name MASTER_ECU_KEY, KEY_1 and so on", word);
     return slot;
 }
 
@@ -67,12 +67,12 @@ uint32_t find_flag(const char *word)
     return 0;
 }
 
-uint32_t flags_of(const char *const *words)
+uint32_t flags_of(char **words)
 {
     uint32_t flag, flags = 0;
     for (; *words != NULL; flags |= flag, words++)
         if ((flag = find_flag(*words)) == 0 || (flags & flag) != 0)
-            refuse(SHE_GENERAL_ERROR, "'%s' is there twice, or no flag: WILDCARD, KEY_USAGE, DEBUGGER, BOOT, WRITE", *words);
+            refuse(SHE_GENERAL_ERROR, "'%.200s' is there twice, or no flag: WILDCARD, KEY_USAGE, DEBUGGER, BOOT, WRITE", *words);
     return flags;
 }
 

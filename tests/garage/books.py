@@ -61,7 +61,7 @@ OTHERWISE = [
     (b"flags KEY_USAGE+BOOT", b"flags LOUD"), (b"flags KEY_USAGE+BOOT", b"flags KEY_USAGE+BOOT+"),
     (b"counter 4, key", b"counter 5, key"), (b"counter 4, key", b"counter 3, key"), (b"uid 62", b"uid 6"), (b"uid 62", b"uid ZZ"),
     (b"garage book 1", b"garage book 01"), (b"garage book 1\n", b"garage book 1\n\n"), (b"garage book 1\n", b"garage book 1\r\n"),
-    (b"\nKEY_4:", b"\nKEY_5:"), (b"\nKEY_4:", b"\n\nKEY_4:"), (b"T", b"t"), (b"since 2", b"since 22"), (b"since 20", b"since \x1b["),
+    (b"\nKEY_4:", b"\nKEY_5:"), (b"\nKEY_4:", b"\n\nKEY_4:"), (b"Z, counter", b"z, counter"), (b"since 2", b"since 22"), (b"since 20", b"since \x1b["),
 ]
 
 
@@ -109,8 +109,8 @@ def own():
                 check(mode == 0o600, f"{name} has mode {mode:o} under the mask {mask}")
         if os.geteuid() == 0:
             os.chown(bench.folder / "bus.book", 65534, 65534)
-            check("must be a file of yours" in bench.run("garage show bus.book")[2], "another's book is read")
-    return "mode 600 under every mask, and another's book is refused"
+            check("is another user's" in bench.run("garage show bus.book")[2], "another's book is read")
+    return "mode 600 under every mask" + (", and another's book is refused" if os.geteuid() == 0 else "; another's book needs root to try")
 
 
 def full():
@@ -126,16 +126,22 @@ def full():
                   f"{blocks} blocks: {status}, {printed}, {said}")
             check(bench.files() == before, f"{blocks} blocks: the folder has changed")
         check(1 < blocks < 8 and printed, f"there was room at {blocks} blocks")
-        ways = [(">/dev/full", "No space left on device"), (">&-", "Bad file descriptor"), ("| true", "Broken pipe")]
-        for way, said in [*ways, ("<&- >&- 2>&-", None)]:
-            bench.write("bus.book", before["bus.book"][1])
-            line = bench.run(f"{{ sleep 0.05; {WRITE}; echo $? >status; }} {way}")[2]
-            check(bench.read("status") == b"2\n", f"status {bench.read('status')} where {said}")
-            check(said is None or line == f"garage: standard output can't be written: {said} (12 GENERAL_ERROR)\n", line)
-            bench.does(f"{WRITE} --again".replace("--key door.key", ""))
-        status, _, line = bench.run(f"{WRITE} --to none/letter")
-        check(status == 2 and line == "garage: none/letter.m1 can't be written: No such file or directory (12 GENERAL_ERROR)\n", line)
-    return f"a book that finds no room below {blocks} blocks stays as it was; what couldn't be printed is there again"
+        bench.write("bus.book", before["bus.book"][1])
+        bench.does(f"{WRITE} --to first")
+        other = WRITE.replace("BOOT", "WRITE")  # which replaces it
+        message = bench.does(f"cp bus.book other.book; {other.replace('bus', 'other')}")
+        ways = [(">/dev/full", "standard output", "No space left on device"), (">&-", "standard output", "Bad file descriptor"),
+                ("--to none/letter", "none/letter.m1", "No such file or directory"), ("<&- >&- 2>&-", None, None)]
+        for way, where, said in ways:
+            status, _, line = bench.run(f"{other} {way}")
+            check(status == 2 and line == (where and f"garage: '{where}' can't be written: {said} (12 GENERAL_ERROR)\n" or ""), line)
+            bench.does(other.replace("--key door.key", ""), 0, message)
+        reader, writer = os.pipe()
+        os.close(reader)
+        ran = subprocess.run(["sh", "-c", other], stdout=writer, stderr=subprocess.PIPE, cwd=bench.folder, env=bench.environment)
+        os.close(writer)
+        check(ran.returncode == 2 and b"Broken pipe" in ran.stderr, f"a pipe that nobody reads: {ran}")
+    return f"a book that finds no room below {blocks} blocks stays as it was; what couldn't be printed is printed again"
 
 
 def calls_of(bench, line):
@@ -163,7 +169,7 @@ def cut(line, prepare):
         printed, new = bench.read("printed").decode(), state_of(bench)
         check(old != new and printed, f"{line} changes nothing")
         trace = bench.read("trace").decode()
-        order = [r"fsync\(", r'rename\("bus.book.garage-new", "bus.book"\)', r"fsync\(", r"write\(1, "]
+        order = [r"fsync\(", r'renameat\(\d+, ".garage-new", \d+, "bus.book"\)', r"fsync\(", r"write\(1, "]
         check(re.search(".*".join(order), trace, re.S), f"the order of {line}:\n{trace}")
         check(not re.search(r"write\(1, .*fsync\(", trace, re.S), f"printed before it is saved:\n{trace}")
         locked = next(i for i, call in enumerate(calls) if call == "flock")
@@ -186,7 +192,7 @@ def cut(line, prepare):
                 errors += status == 2
             if state == old:  # as if nothing had been
                 bench.does(line, 0, printed)
-                check(state_of(bench) == new and not (bench.folder / "bus.book.garage-new").exists(), f"{line} fails after {fault} at {calls[i]}")
+                check(state_of(bench) == new and not (bench.folder / ".garage-new").exists(), f"{line} fails after {fault} at {calls[i]}")
     return kills, errors
 
 
@@ -208,7 +214,7 @@ def cuts():
                 bench.does("garage new bus.book $BUS")
             check(bench.read("bus.book") == new, f"a new book that was cut off at call {i}, {calls[i]}")
             bench.does("garage write bus.book 1 1")
-            check(not (bench.folder / "bus.book.garage-new").exists(), "a file beside the book stays")
+            check(not (bench.folder / ".garage-new").exists(), "a file beside the book stays")
     return f"{written[0] + judged[0] + len(calls) - 1} kills and {written[1] + judged[1]} errors of the system: the old book or the new one"
 
 
@@ -242,13 +248,15 @@ def wiped():
     def turned(key):
         return "".join(f"{15 - int(digit, 16):x}" for digit in key)
 
-    lines = [(0, "write bus.book KEY_2 1 --key door.key"), (0, "write bus.book KEY_2 1 --again"), (0, "show bus.book --keys"),
+    lines = [(0, "write bus.book KEY_2 1 --key door.key"), (0, "write bus.book KEY_2 1"), (0, "show bus.book --keys"),
              (1, "judge bus.book KEY_3 m4 m5"), (2, "judge bus.book 0 m4 m5"), (2, "write bus.book KEY_1 1 --key door.key"),
              (2, "write bus.book KEY_2 KEY_3 --key door.key"), (0, "new x.book $BUS KEY_1@1=door.key 1@1=master.key"),
              (2, "new bus.book $BUS KEY_1@1=- <door.key"), (2, "show bus.book --keys >/dev/full"), (2, "show cut.book"),
-             (2, "new y.book $BUS KEY_1@1=two.key")]
+             (2, "new y.book $BUS KEY_1@1=two.key"), (0, "judge new.book 1 - - <proof")]
     with Bench() as bench:
         bench.furnish()
+        bench.does("garage-board make bus.board $BUS && garage new new.book $BUS")
+        bench.does("garage write new.book 1 1 --key master.key | garage-board load bus.board - - - >proof")
         for status, line in lines:
             bench.does(f"{NATIVE}/garage-wiped {turned(MASTER)} {turned(DOOR)} -- {line}", status)
         left = bench.run(f"{NATIVE}/garage-wiped {turned(MASTER)} {turned(DOOR)} -- new z.book {MASTER}")

@@ -1,12 +1,13 @@
 /* wiped KEY.. -- WORD..: performs the command with these words, in this very process, and looks before its end whether the memory
  * still holds one of the keys (32 hexadecimal digits each, given with every digit turned round, so that the question is no trace):
- * as bytes, or as a text. It is compiled with the command's own files, whose `main` is called command_main here. The status is the
- * command's, or 9 where a key is found. */
+ * as bytes, or as a text; and whether the process may leave a core file. It is compiled with the command's own files, whose `main`
+ * is called command_main here. The status is the command's, or 9 where a key is found or a core file may be left. */
 #include <inttypes.h>
 #include <stdint.h>
 #include <stdio.h>
 #include <stdlib.h>
 #include <string.h>
+#include <sys/prctl.h>
 #include <sys/syscall.h>
 #include <unistd.h>
 
@@ -48,7 +49,7 @@ static int traces(void)
     return found;
 }
 
-static void leave(int status) { syscall(SYS_exit_group, traces() > 0 ? 9 : status); }
+static void leave(int status) { syscall(SYS_exit_group, traces() > 0 || prctl(PR_GET_DUMPABLE) != 0 ? 9 : status); }
 
 /* A refusal ends the program so. */
 void _exit(int status)
