@@ -1,10 +1,6 @@
 /* garage-board: a board in a file, to try the foreman's command on. Its keys lie open in that file, and it says so. */
 #include "command.h"
 
-#include <inttypes.h>
-#include <stdio.h>
-#include <string.h>
-
 enum { SECRET = HELP + 1 };
 static const struct option options[] = {{"help", no_argument, NULL, HELP}, {"secret", required_argument, NULL, SECRET}, {0}};
 static const char head[] = "garage-board 1: A TOY. THE KEYS OF THIS BOARD LIE OPEN IN THIS FILE\n";
@@ -32,40 +28,38 @@ static struct she_device *open_board(const char *path)
     return board;
 }
 
-static int make_board(const struct order *order)
+static void make_board(char **words)
 {
     struct she_device *board = secret(sizeof *board);
     uint8_t uid[SHE_UID], *key = secret(SHE_BLOCK), *seed = secret(SHE_BLOCK);
-    take_bytes("the UID", order->words[1], WHOLE(uid));
-    take_key("SECRET_KEY", order->options[SECRET], key);
+    take_bytes("the UID", words[1], WHOLE(uid));
+    take_key("SECRET_KEY", given[SECRET], key);
     take_key("the seed", NULL, seed);
     uint8_t answer = wiped(she_make(board, WHOLE(uid), key, SHE_BLOCK, seed, SHE_BLOCK));
     if (answer != SHE_NO_ERROR)
         refuse(answer, "the board can't be made");
-    lock_file(order->words[0]);
+    lock_file(words[0]);
     save_board(board, true);
-    return DONE;
 }
 
-static int load_key(const struct order *order)
+static void load_key(char **words)
 {
     uint8_t m1[SHE_BLOCK], m2[SHE_TWO_BLOCKS], m3[SHE_BLOCK], m4[SHE_TWO_BLOCKS], m5[SHE_BLOCK];
-    take_bytes("M1", order->words[1], WHOLE(m1));
-    take_bytes("M2", order->words[2], WHOLE(m2));
-    take_bytes("M3", order->words[3], WHOLE(m3));
-    struct she_device *board = open_board(order->words[0]);
+    take_bytes("M1", words[1], WHOLE(m1));
+    take_bytes("M2", words[2], WHOLE(m2));
+    take_bytes("M3", words[3], WHOLE(m3));
+    struct she_device *board = open_board(words[0]);
     uint8_t answer = wiped(she_load_key(board, WHOLE(m1), WHOLE(m2), WHOLE(m3), WHOLE(m4), WHOLE(m5)));
     if (answer != SHE_NO_ERROR)
         refuse(answer, "the board refuses the message");
     save_board(board, false);
-    print_hex(NULL, "m4", WHOLE(m4));
-    print_hex(NULL, "m5", WHOLE(m5));
-    return DONE;
+    print_hex(STDOUT_FILENO, WHOLE(m4));
+    print_hex(STDOUT_FILENO, WHOLE(m5));
 }
 
-static int show_board(const struct order *order)
+static void show_board(char **words)
 {
-    const struct she_device *board = open_board(order->words[0]);
+    const struct she_device *board = open_board(words[0]);
     struct text *text = secret(sizeof *text);
     add(text, "uid ");
     add_hex(text, board->uid, SHE_UID);
@@ -79,8 +73,7 @@ static int show_board(const struct order *order)
         add_flags(text, board->flags[slot]);
     }
     add(text, "\n");
-    print(NULL, text);
-    return DONE;
+    print(STDOUT_FILENO, text);
 }
 
 static const char about[] =
@@ -107,5 +100,5 @@ static const struct verb verbs[] = {
 int main(int count, char **words)
 {
     fputs("garage-board: A TOY, FOR TRAINING ONLY: THE KEYS OF THIS BOARD LIE OPEN IN ITS FILE\n", stderr);
-    return command("garage-board", about, verbs, options, count, words);
+    command("garage-board", about, verbs, options, count, words);
 }

@@ -2,10 +2,6 @@
  * read from it, checksum and all. So the reading itself need not be strict, and nothing damaged, cut short or altered is taken. */
 #include "command.h"
 
-#include <inttypes.h>
-#include <stdio.h>
-#include <string.h>
-
 static const uint8_t zeros[SHE_TWO_BLOCKS];
 static const char head[] = "garage book 1\n", between[] = " ,\n";
 
@@ -76,13 +72,6 @@ static void read_slot(char **at, struct book *book, uint32_t slot)
         book->flags[slot] |= find_flag(next_word(&names, "+"));
 }
 
-/* Which records are an open book the library alone knows: to one it answers that SECRET_KEY is no target, to another 12. */
-static bool is_open(struct garage_book *garage)
-{
-    uint8_t verdict;
-    return wiped(garage_judge(garage, SHE_SECRET_KEY, zeros, SHE_TWO_BLOCKS, zeros, SHE_BLOCK, &verdict)) == SHE_KEY_INVALID;
-}
-
 struct book *open_book(const char *path)
 {
     struct book *book = secret(sizeof *book);
@@ -98,7 +87,9 @@ struct book *open_book(const char *path)
         read_slot(&at, book, slot);
     book->garage.marks[0] = 1;
     const struct text *right = text_of(book);
-    if (text->length != right->length || memcmp(text->bytes, right->bytes, right->length) != 0 || !is_open(&book->garage))
+    /* which records are an open book the library alone knows: to one it answers that SECRET_KEY is no target, to another 12 */
+    uint8_t verdict, answer = wiped(garage_judge(&book->garage, SHE_SECRET_KEY, zeros, SHE_TWO_BLOCKS, zeros, SHE_BLOCK, &verdict));
+    if (text->length != right->length || memcmp(text->bytes, right->bytes, right->length) != 0 || answer != SHE_KEY_INVALID)
         refuse(SHE_GENERAL_ERROR, "'%.200s' is a damaged book", path);
     return book;
 }

@@ -1,11 +1,10 @@
 /* A command line taken apart, and its verb performed; the help, from the table of verbs. */
 #include "command.h"
 
-#include <fcntl.h>
 #include <signal.h>
-#include <string.h>
 #include <sys/prctl.h>
-#include <unistd.h>
+
+const char *given[MOST_OPTIONS];
 
 /* A full file, or a pipe that nobody reads, is to be told, and not to end the program. A closed standard output must not become the
  * number of a file that keys are written to. And no core file is to keep them. */
@@ -19,7 +18,7 @@ static void settle(void)
 }
 
 /* All of a verb's, or the first line of each, its usage. */
-static int help(const char *about, const struct verb *verb)
+static void help(const char *about, const struct verb *verb)
 {
     struct text text = {0};
     if (about == NULL)
@@ -27,33 +26,30 @@ static int help(const char *about, const struct verb *verb)
     else
         for (add(&text, "%s", about); verb->name != NULL; verb++)
             add(&text, "    %.*s\n", (int)strcspn(verb->help, "\n"), verb->help);
-    print(NULL, &text);
-    return DONE;
+    print(STDOUT_FILENO, &text);
+    leave(DONE);
 }
 
-int command(const char *name, const char *about, const struct verb *verbs, const struct option *options, int count, char **words)
+void command(const char *name, const char *about, const struct verb *verbs, const struct option *options, int count, char **words)
 {
-    struct order order = {0};
     const struct verb *verb = verbs;
     program = name;
     settle();
-    for (int option; (option = getopt_long(count, words, ":", options, NULL)) >= 0; order.options[option] = optarg ? optarg : "")
-        if (option == '?' || option == ':' || order.options[option] != NULL)
+    for (int option; (option = getopt_long(count, words, ":", options, NULL)) >= 0; given[option] = optarg ? optarg : "")
+        if (option == '?' || option == ':' || given[option] != NULL)
             refuse(SHE_GENERAL_ERROR, "an option is unknown, lacks its value, or is there twice: see %s --help", program);
     const char *word = optind == count ? "" : words[optind];
     while (verb->name != NULL && strcmp(word, verb->name) != 0)
         verb++;
-    if (order.options[HELP] != NULL)
-        return verb->name == NULL ? help(about, verbs) : help(NULL, verb);
+    if (given[HELP] != NULL)
+        help(verb->name == NULL ? about : NULL, verb->name == NULL ? verbs : verb);
     if (verb->name == NULL)
         refuse(SHE_GENERAL_ERROR, "there is no verb '%.200s': see %s --help", word, program);
-    order.words = words + optind + 1;
     if (count - optind - 1 < verb->least || count - optind - 1 > verb->most)
         refuse(SHE_GENERAL_ERROR, "wrong number of words: it is %.*s", (int)strcspn(verb->help, "\n"), verb->help);
     for (int i = 0; i < MOST_OPTIONS; i++)
-        if (order.options[i] != NULL && (verb->options & 1u << i) == 0)
+        if (given[i] != NULL && (verb->options & 1u << i) == 0)
             refuse(SHE_GENERAL_ERROR, "--%s is no option of %s", options[i].name, word);
-    int status = verb->perform(&order);
-    wipe_secrets();
-    return status;
+    verb->perform(words + optind + 1);
+    leave(DONE);
 }

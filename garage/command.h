@@ -4,8 +4,14 @@
 
 #include "garage.h"
 
+#include <errno.h>
+#include <fcntl.h>
 #include <getopt.h>
+#include <inttypes.h>
 #include <stdbool.h>
+#include <stdio.h>
+#include <string.h>
+#include <unistd.h>
 
 #define WHOLE(buffer) (buffer), sizeof(buffer)
 
@@ -15,14 +21,16 @@ struct text {
     char bytes[4096];
 };
 extern const char *program;                                            /* its name */
-_Noreturn void refuse(enum she_answer answer, const char *why, ...);   /* a line on standard error, and the program ends */
+enum { DONE = 0, NO = 1, REFUSED = 2 };                                /* exit status */
+_Noreturn void leave(int status);                                      /* wipes the keys, and ends the program */
+_Noreturn void refuse(enum she_answer answer, const char *why, ...);   /* a line on standard error; what new_file made is removed */
 void add(struct text *text, const char *format, ...);
 void add_hex(struct text *text, const uint8_t *bytes, size_t count);
+int new_file(const char *prefix, int number);                          /* PREFIX.m1 to m3; standard output if the prefix is null */
 bool write_text(int file, const struct text *text);
-void print(const char *path, const struct text *text);                 /* into a new file; on standard output if the path is null */
-void print_hex(const char *prefix, const char *part, const uint8_t *bytes, size_t count); /* a line, into PREFIX.PART or as print */
-void *secret(size_t size);                                             /* zeroed room for keys, which every end wipes */
-void wipe_secrets(void);
+void print(int file, const struct text *text);
+void print_hex(int file, const uint8_t *bytes, size_t count);          /* a line */
+void *secret(size_t size);                                             /* zeroed room for keys */
 uint8_t wiped(uint8_t answer);                                         /* a library's, when the stack that it took is wiped */
 
 /* ---- words.c: slots, flags, numbers and digits, each with one spelling */
@@ -59,19 +67,16 @@ void save_book(const struct book *book, bool is_new);
 void add_book(struct text *text, const struct book *book, bool shows_keys);
 
 /* ---- command.c: a command line, its verb, and the help */
-enum { DONE = 0, NO = 1, REFUSED = 2 };                                /* exit status */
 enum { HELP, MOST_OPTIONS = 4 };                                       /* the first option of every program */
-struct order {
-    char **words;                                                      /* a null follows the last */
-    const char *options[MOST_OPTIONS];                                 /* their values, "" for one without; null if not given */
-};
+extern const char *given[MOST_OPTIONS];                                /* an option's value, "" if it has none; null if not given */
 struct verb {
     const char *name;
     int least, most;                                                   /* words */
     unsigned options;                                                  /* those that it takes, a bit each */
-    int (*perform)(const struct order *order);
+    void (*perform)(char **words);                                     /* a null follows the last */
     const char *help;                                                  /* its first line is the usage */
 };
-int command(const char *name, const char *about, const struct verb *verbs, const struct option *options, int count, char **words);
+_Noreturn void command(const char *name, const char *about, const struct verb *verbs, const struct option *options, int count,
+                       char **words);
 
 #endif

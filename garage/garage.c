@@ -2,8 +2,6 @@
  * anything is printed, so that no message exists that the book doesn't know. */
 #include "command.h"
 
-#include <stdio.h>
-#include <string.h>
 #include <time.h>
 
 enum { KEY = HELP + 1, TO, KEYS };
@@ -28,33 +26,31 @@ static void take_known(const char *word, struct garage_book *known)
         take_key(slot_names[slot], file, known->keys + SHE_BLOCK * slot);
 }
 
-static int new_book(const struct order *order)
+static void new_book(char **words)
 {
     struct garage_book *known = secret(sizeof *known);
     struct book *book = secret(sizeof *book);
-    take_bytes("the UID", order->words[1], known->uid, SHE_UID);
-    for (int i = 2; order->words[i] != NULL; i++)
-        take_known(order->words[i], known);
+    take_bytes("the UID", words[1], known->uid, SHE_UID);
+    for (int i = 2; words[i] != NULL; i++)
+        take_known(words[i], known);
     uint8_t answer = wiped(garage_open(&book->garage, known->uid, SHE_UID, known->keys, GARAGE_KEYS, known->held, SHE_SLOTS,
                                        known->counters + SHE_MASTER_ECU_KEY, GARAGE_COUNTERS));
     if (answer != SHE_NO_ERROR)
         refuse(answer, "no bus has a UID of zeros");
-    lock_file(order->words[0]);
+    lock_file(words[0]);
     save_book(book, true);
-    return DONE;
 }
 
-static int show_book(const struct order *order)
+static void show_book(char **words)
 {
     struct text *text = secret(sizeof *text);
-    add_book(text, open_book(order->words[0]), order->options[KEYS] != NULL);
-    print(NULL, text);
-    return DONE;
+    add_book(text, open_book(words[0]), given[KEYS] != NULL);
+    print(STDOUT_FILENO, text);
 }
 
 static const char *const why_not[] = {
     [SHE_KEY_INVALID] = "no key message has that target and that authority",
-    [SHE_KEY_EMPTY] = "the book has no key of that authority, or no proof of it yet",
+    [SHE_KEY_EMPTY] = "the book has no key for that authority, or no proof of it yet",
     [SHE_KEY_UPDATE_ERROR] = "the counter of that target is used up",
     [SHE_GENERAL_ERROR] = "the library refuses it",
 };
@@ -68,17 +64,20 @@ static void time_now(char text[TIME + 1])
 }
 
 /* Without a key the one that waits is taken, if one does: so who repeats a command gets the same message again, and no key that the
- * bus may have taken is forgotten. */
-static int write_message(const struct order *order)
+ * bus may have taken is forgotten. The files are made first, so that a name that can't be had refuses all of it. */
+static void write_message(char **words)
 {
-    uint32_t target = slot_of(order->words[1]), authority = slot_of(order->words[2]), flags = flags_of(order->words + 3);
+    uint32_t target = slot_of(words[1]), authority = slot_of(words[2]), flags = flags_of(words + 3);
     uint8_t *key = secret(SHE_BLOCK), m1[SHE_BLOCK], m2[SHE_TWO_BLOCKS], m3[SHE_BLOCK];
-    take_key("the new key", order->options[KEY], key);
-    struct book *book = open_book(order->words[0]);
+    take_key("the new key", given[KEY], key);
+    int files[3];
+    for (int i = 0; i < 3; i++)
+        files[i] = new_file(given[TO], i + 1);
+    struct book *book = open_book(words[0]);
     struct garage_book *garage = &book->garage;
     const uint8_t *waiting_key = garage->newkeys + SHE_BLOCK * target;
     bool one_waits = garage->waits[target];
-    if (one_waits && order->options[KEY] == NULL)
+    if (one_waits && given[KEY] == NULL)
         memcpy(key, waiting_key, SHE_BLOCK);
     bool this_waits = one_waits && garage->authorities[target] == authority && book->flags[target] == flags
                    && memcmp(waiting_key, key, SHE_BLOCK) == 0;
@@ -89,32 +88,33 @@ static int write_message(const struct order *order)
     if (!this_waits)
         time_now(book->since[target]);
     save_book(book, false);
-    print_hex(order->options[TO], "m1", WHOLE(m1));
-    print_hex(order->options[TO], "m2", WHOLE(m2));
-    print_hex(order->options[TO], "m3", WHOLE(m3));
-    if (one_waits && !this_waits)
+    if (this_waits)
+        fprintf(stderr, "garage: this is the message that waits for %s, once more\n", slot_names[target]);
+    else if (one_waits)
         fprintf(stderr, "garage: this replaces what waited for %s, which must not be delivered any more\n", slot_names[target]);
     if (!garage->held[authority])
         fprintf(stderr, "garage: %s counts as empty, so whoever reads this message can read the key\n", slot_names[authority]);
-    return DONE;
+    print_hex(files[0], WHOLE(m1));
+    print_hex(files[1], WHOLE(m2));
+    print_hex(files[2], WHOLE(m3));
 }
 
-static int judge_proof(const struct order *order)
+static void judge_proof(char **words)
 {
-    uint32_t target = slot_of(order->words[1]);
+    uint32_t target = slot_of(words[1]);
     uint8_t m4[SHE_TWO_BLOCKS], m5[SHE_BLOCK], verdict;
-    take_bytes("M4", order->words[2], WHOLE(m4));
-    take_bytes("M5", order->words[3], WHOLE(m5));
-    struct book *book = open_book(order->words[0]);
+    take_bytes("M4", words[2], WHOLE(m4));
+    take_bytes("M5", words[3], WHOLE(m5));
+    struct book *book = open_book(words[0]);
     uint8_t answer = wiped(garage_judge(&book->garage, target, WHOLE(m4), WHOLE(m5), &verdict));
     if (answer != SHE_NO_ERROR)
         refuse(answer, "%s is the target of no key message", slot_names[target]);
     if (verdict)
         save_book(book, false);
-    else if (!book->garage.waits[target])
+    print(STDOUT_FILENO, verdict ? &(struct text){4, "yes\n"} : &(struct text){3, "no\n"});
+    if (!verdict && !book->garage.waits[target])
         fprintf(stderr, "garage: no message waits for %s\n", slot_names[target]);
-    print(NULL, verdict ? &(struct text){4, "yes\n"} : &(struct text){3, "no\n"});
-    return verdict ? DONE : NO;
+    leave(verdict ? DONE : NO);
 }
 
 static const char about[] =
@@ -137,12 +137,13 @@ static const struct verb verbs[] = {
      "Example: garage show bus12.book\n"},
     {"write", 3, 3 + 5, 1 << HELP | 1 << KEY | 1 << TO, write_message,
      "garage write BOOK TARGET AUTHORITY [FLAG..] [--key FILE] [--to PREFIX]\n\n"
-     "Writes the message that brings a new key into the slot TARGET, under the key that the book has of the slot AUTHORITY. The\n"
+     "Writes the message that brings a new key into the slot TARGET, under the key that the book has for the slot AUTHORITY. The\n"
      "message is saved in the book, where it waits for its proof, and then printed: M1, M2 and M3, a line each. The same command\n"
-     "again prints the same message; another message for TARGET replaces it.\n"
+     "once more prints the same message; another message for TARGET replaces it.\n"
      "Slots are 0 to 14, or SECRET_KEY, MASTER_ECU_KEY, BOOT_MAC_KEY, BOOT_MAC, KEY_1 to KEY_10, RAM_KEY.\n"
      "Flags are WILDCARD, KEY_USAGE, DEBUGGER, BOOT, WRITE.\n"
-     "    --key FILE      the new key in 32 hexadecimal digits; - is standard input. Without it the system makes a random one\n"
+     "    --key FILE      the new key in 32 hexadecimal digits; - is standard input. Without it the key that waits for TARGET is\n"
+     "                    taken, and if none waits, the system makes a random one\n"
      "    --to PREFIX     into the new files PREFIX.m1, PREFIX.m2 and PREFIX.m3\n\n"
      "Example: garage write bus12.book KEY_1 MASTER_ECU_KEY KEY_USAGE --to door\n"},
     {"judge", 4, 4, 1 << HELP, judge_proof,
@@ -154,4 +155,4 @@ static const struct verb verbs[] = {
     {0},
 };
 
-int main(int count, char **words) { return command("garage", about, verbs, options, count, words); }
+int main(int count, char **words) { command("garage", about, verbs, options, count, words); }

@@ -2,11 +2,6 @@
  * every user of a machine can read its command lines. */
 #include "command.h"
 
-#include <errno.h>
-#include <fcntl.h>
-#include <string.h>
-#include <unistd.h>
-
 static const char blanks[] = " \t\r\n";
 static char *input; /* what is left of standard input; null before it is read */
 

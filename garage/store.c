@@ -3,13 +3,8 @@
  * itself would stay with the old one. */
 #include "command.h"
 
-#include <errno.h>
-#include <fcntl.h>
-#include <stdio.h>
-#include <string.h>
 #include <sys/file.h>
 #include <sys/stat.h>
-#include <unistd.h>
 
 /* The file's path, its name in the folder, and the name of the text that is being saved, of which a folder has one at a time. */
 static const char *path, *name, beside[] = ".garage-new";
@@ -42,7 +37,7 @@ void read_locked(struct text *text)
                       : (about.st_mode & 077) != 0 ? "can be read by others, and has keys in it: see chmod 600" : NULL;
     if (fault != NULL)
         refuse(SHE_GENERAL_ERROR, "'%.200s' %s", path, fault);
-    read_text("the book", path, file, text);
+    read_text("the keys", path, file, text);
 }
 
 /* Whether the text is on the disk, for its owner alone. */

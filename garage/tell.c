@@ -2,12 +2,7 @@
 #include "command.h"
 
 #include <ctype.h>
-#include <errno.h>
-#include <fcntl.h>
 #include <stdarg.h>
-#include <stdio.h>
-#include <string.h>
-#include <unistd.h>
 
 const char *program;
 
@@ -15,6 +10,16 @@ static const char *const answers[] = {
     "NO_ERROR", "SEQUENCE_ERROR", "KEY_NOT_AVAILABLE", "KEY_INVALID", "KEY_EMPTY", "NO_SECURE_BOOT", "KEY_WRITE_PROTECTED",
     "KEY_UPDATE_ERROR", "RNG_SEED", "NO_DEBUGGING", "BUSY", "MEMORY_FAILURE", "GENERAL_ERROR",
 };
+
+static struct text made[3]; /* the paths of M1 to M3 */
+static int made_count;
+static _Alignas(16) uint8_t secrets[131072];
+
+void leave(int status)
+{
+    explicit_bzero(secrets, sizeof secrets);
+    _exit(status);
+}
 
 /* Words from outside may hold any bytes, and the line stays one line. */
 void refuse(enum she_answer answer, const char *why, ...)
@@ -28,8 +33,9 @@ void refuse(enum she_answer answer, const char *why, ...)
         if (iscntrl((unsigned char)*at))
             *at = '?';
     fprintf(stderr, "%s: %s (%d %s)\n", program, words, answer, answers[answer]);
-    wipe_secrets();
-    _exit(REFUSED);
+    while (made_count > 0)
+        unlink(made[--made_count].bytes);
+    leave(REFUSED);
 }
 
 void add(struct text *text, const char *format, ...)
@@ -48,29 +54,38 @@ void add_hex(struct text *text, const uint8_t *bytes, size_t count)
         add(text, "%02x", bytes[i]);
 }
 
+int new_file(const char *prefix, int number)
+{
+    if (prefix == NULL)
+        return STDOUT_FILENO;
+    struct text *path = &made[made_count];
+    add(path, "%s.m%d", prefix, number);
+    int file = open(path->bytes, O_WRONLY | O_CREAT | O_EXCL | O_CLOEXEC, 0600);
+    if (file < 0)
+        refuse(SHE_GENERAL_ERROR, "'%.200s' can't be made: %s", path->bytes, strerror(errno));
+    made_count++;
+    return file;
+}
+
 bool write_text(int file, const struct text *text)
 {
     errno = file < 0 ? errno : ENOSPC; /* why only a part would be taken */
     return file >= 0 && write(file, text->bytes, text->length) == (ssize_t)text->length;
 }
 
-void print(const char *path, const struct text *text)
+void print(int file, const struct text *text)
 {
-    int file = path == NULL ? STDOUT_FILENO : open(path, O_WRONLY | O_CREAT | O_EXCL | O_CLOEXEC, 0600);
-    if (!write_text(file, text) || (path != NULL && close(file) != 0))
-        refuse(SHE_GENERAL_ERROR, "'%.200s' can't be written: %s", path == NULL ? "standard output" : path, strerror(errno));
+    if (!write_text(file, text) || (file != STDOUT_FILENO && close(file) != 0))
+        refuse(SHE_GENERAL_ERROR, "%s can't be written: %s", file == STDOUT_FILENO ? "standard output" : "a file", strerror(errno));
 }
 
-void print_hex(const char *prefix, const char *part, const uint8_t *bytes, size_t count)
+void print_hex(int file, const uint8_t *bytes, size_t count)
 {
-    struct text path = {0}, line = {0};
-    add(&path, "%s.%s", prefix != NULL ? prefix : "", part);
+    struct text line = {0};
     add_hex(&line, bytes, count);
     add(&line, "\n");
-    print(prefix != NULL ? path.bytes : NULL, &line);
+    print(file, &line);
 }
-
-static _Alignas(16) uint8_t secrets[131072];
 
 void *secret(size_t size)
 {
@@ -88,5 +103,3 @@ uint8_t wiped(uint8_t answer)
     explicit_bzero(stack, sizeof stack);
     return answer;
 }
-
-void wipe_secrets(void) { explicit_bzero(secrets, sizeof secrets); }

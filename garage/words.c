@@ -2,10 +2,7 @@
  * skipped, cut or guessed. */
 #include "command.h"
 
-#include <inttypes.h>
-#include <stdio.h>
 #include <stdlib.h>
-#include <string.h>
 
 const char hex_digits[] = "0123456789abcdefABCDEF";
 const char *const slot_names[SHE_SLOTS + 1] = {
@@ -69,10 +66,13 @@ uint32_t find_flag(const char *word)
 
 uint32_t flags_of(char **words)
 {
-    uint32_t flag, flags = 0;
-    for (; *words != NULL; flags |= flag, words++)
-        if ((flag = find_flag(*words)) == 0 || (flags & flag) != 0)
+    uint32_t flags = 0;
+    for (; *words != NULL; words++) {
+        uint32_t flag = find_flag(*words);
+        if (flag == 0 || (flags & flag) != 0)
             refuse(SHE_GENERAL_ERROR, "'%.200s' is there twice, or no flag: WILDCARD, KEY_USAGE, DEBUGGER, BOOT, WRITE", *words);
+        flags |= flag;
+    }
     return flags;
 }
 

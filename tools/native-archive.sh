@@ -1,6 +1,6 @@
 #!/bin/sh
-# native-archive.sh CRATE: proves the crate and writes target/native/libCRATE.a, for C programs of this very machine. One that is
-# newer than every file of the crates is left as it is.
+# native-archive.sh CRATE: proves the crate and writes target/native/libCRATE.a, for C programs of this very machine. One that this
+# kit made, and that is newer than every file of the crates, is left as it is.
 #
 # The kit compiles for x86-64. On another processor its compiler is asked for that one's code as well: by a copy of the kit
 # made of links, in which `clang` is a script that does what it is told, puts the x86-64 object aside as
@@ -10,12 +10,20 @@ set -eu
 crate=$1
 machine=$(uname -m)
 mkdir -p target/native
-made=target/native/lib$crate.a
-[ ! -f "$made" ] || [ -n "$(find crates crates.txt "$0" -newer "$made" -print -quit)" ] || exit 0
-touch "target/native/$crate.began"
+made=target/native/lib$crate.a began=target/native/$crate.began
+is_of_this_kit() {
+    [ -f "$made" ] && [ "$(cat "$began" 2>/dev/null)" = "$(rt version)" ]
+}
+is_newest() {
+    [ -z "$(find crates crates.txt "$0" -newer "$made" -print -quit)" ]
+}
+if is_of_this_kit && is_newest; then
+    exit 0
+fi
+rt version >"$began"
 finish() { # cp or mv; an edit of the crates after the start is newer than the archive
     $1 "target/staticlib/lib$crate.a" "$made"
-    touch -r "target/native/$crate.began" "$made"
+    touch -r "$began" "$made"
 }
 archive() { # the kit's own, proved first
     sh tools/watch.sh "proving and compiling $crate" target/native/log rt staticlib "$crate" || { cat target/native/log; exit 1; }

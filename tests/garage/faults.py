@@ -27,8 +27,8 @@ def copy_of(place):
         whole = shutil.copytree if (ROOT / name).is_dir() else shutil.copy2
         whole(ROOT / name, place / name)
     (place / "target" / "native").mkdir(parents=True)
-    for library in ("libshe.a", "libgarage.a"):
-        shutil.copy(ROOT / "target" / "native" / library, place / "target" / "native")
+    for made in ("libshe.a", "libgarage.a", "she.began", "garage.began"):
+        shutil.copy(ROOT / "target" / "native" / made, place / "target" / "native")
 
 
 def tested(place, *tests):

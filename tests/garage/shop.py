@@ -57,7 +57,7 @@ class Bench:
         self.place.cleanup()
 
     def run(self, line):
-        """a line in a shell, of which nothing is left after a while: (status, standard output, standard error)"""
+        """a line in a shell, of which nothing is left after 20 seconds: (status, standard output, standard error)"""
         ran = subprocess.run(["timeout", "-s", "KILL", "20", "sh", "-c", line], cwd=self.folder, env=self.environment, text=True,
                              capture_output=True, errors="surrogateescape")
         return ran.returncode, ran.stdout, ran.stderr

@@ -14,7 +14,8 @@ FLAGS = ["WILDCARD", "KEY_USAGE", "DEBUGGER", "BOOT", "WRITE"]
 
 def morning_on(build):
     with Bench(build) as bench:
-        played = subprocess.run(["sh", "demo/morning.sh", str(bench.bin)], cwd=ROOT, capture_output=True, text=True, env=bench.environment)
+        line = ["timeout", "120", "sh", "demo/morning.sh", bench.bin]
+        played = subprocess.run(line, cwd=ROOT, capture_output=True, text=True, env=bench.environment)
         check(played.returncode == 0, f"README.md's morning goes so ({build}):\n{played.stdout}{played.stderr}")
         return played.stdout.count("\n$ ")
 
@@ -84,14 +85,19 @@ def forms():
         message = bench.does("garage write bus.book KEY_1 1 KEY_USAGE DEBUGGER")
         bench.write("bus.book", sealed(TIME.sub("2020-02-20T20:20:20Z", lines_of(bench.read("bus.book")).decode()).encode()))
         waiting = bench.read("bus.book")
-        bench.does("garage write bus.book KEY_1 1 DEBUGGER KEY_USAGE --to letter", 0, "")
+        bench.does("umask 0; garage write bus.book KEY_1 1 DEBUGGER KEY_USAGE --to letter", 0, "")
         check("".join(bench.read(f"letter.m{n}").decode() for n in (1, 2, 3)) == message, "the same command gives another message")
         check(bench.read("bus.book") == waiting, "the same command again changes the book")
         check(all((bench.folder / f"letter.m{n}").stat().st_mode & 0o777 == 0o600 for n in (1, 2, 3)), "others can read a message")
-        bench.write("over.m1", "something else")
-        for line in ("garage write bus.book KEY_1 1 --to over", "cp bus.book book.m1 && garage write book.m1 KEY_1 1 --to book"):
-            check(bench.run(line)[2].endswith(".m1' can't be written: File exists (12 GENERAL_ERROR)\n"), line)
-        check(bench.read("over.m1") == b"something else" and bench.does("garage show book.m1"), "a file is written over")
+        said = bench.run("garage write bus.book KEY_1 1 DEBUGGER KEY_USAGE")[2]
+        check(said == "garage: this is the message that waits for KEY_1, once more\n", f"the same again in silence: {said}")
+        bench.write("over.m3", "something else")
+        bench.does("cp bus.book book.m1")
+        before = bench.files()
+        for prefix, path in (("over", "over.m3"), ("book", "book.m1"), ("none/x", "none/x.m1")):
+            for book in ("bus.book", "book.m1"):
+                said = bench.run(f"garage write {book} KEY_1 1 --to {prefix}")[2]
+                check(said.startswith(f"garage: '{path}' can't be made: ") and bench.files() == before, f"--to {prefix}: {said}")
         # another in its place has the same key, unless one is given; and what can be read by everybody is told
         replaces = "garage: this replaces what waited for KEY_1, which must not be delivered any more\n"
         key = re.search(r"^KEY_1: .*new-key (\w+)", bench.does("garage show bus.book --keys").replace(", key", ", new-key"), re.M)
@@ -113,6 +119,8 @@ def forms():
             bench.does(f"garage judge bus.book 4 {proof}", 0, "yes\n")
             check(f"KEY_1: counter 2, key {DOOR}, waiting none\n" in bench.does("garage show bus.book --keys"), "a yes changes nothing")
         check(bench.run("garage judge bus.book KEY_1 m4 m5") == (1, "no\n", "garage: no message waits for KEY_1\n"), "a yes twice")
+        said = bench.run("garage judge bus.book KEY_1 m4 m5 >/dev/full")[2]
+        check(said == "garage: standard output can't be written: No space left on device (12 GENERAL_ERROR)\n", f"two lines: {said}")
         check(bench.run("garage-board load bus.board 00 00 00")[0] == 2 and "LIE OPEN" in bench.run("garage-board show bus.board")[2],
               "the board takes anything, or is silent about its keys")
     return "every slot by name and number, keys and proofs from everywhere, in files and again; book and board hold the same"
@@ -143,7 +151,7 @@ def helps():
 def words():
     """random words, most of them nearly right, into what reads words, with gcc's checkers"""
     with Bench() as bench:
-        return bench.does(f"{CHECKED}{NATIVE}/garage-words 1 400000").strip()
+        return bench.does(f"{CHECKED}'{NATIVE}/garage-words' 1 400000").strip()
 
 
 def lines():
@@ -161,7 +169,7 @@ def lines():
             if draw.randrange(4) == 0:
                 line = ["garage", *draw.choice([("judge", "bus.book", draw.choice(SLOTS), "m4", "m5"),
                                                 ("write", "bus.book", draw.choice(SLOTS[1:]), "1", draw.choice(FLAGS + words))])]
-            ran = subprocess.run(line, cwd=bench.folder, env=bench.environment, capture_output=True, stdin=subprocess.DEVNULL)
+            ran = subprocess.run(line, cwd=bench.folder, env=bench.environment, capture_output=True, stdin=subprocess.DEVNULL, timeout=60)
             said = ran.stderr.decode(errors="replace")
             check(ran.returncode in counted, f"{line}: status {ran.returncode}, {said}")
             one_line = re.fullmatch(r"garage: [^\n]* \(\d+ [A-Z_]+\)\n", said)
