@@ -41,7 +41,7 @@ bool is_hex(const char *word, uint8_t *bytes, size_t count);           /* just a
 uint32_t find_slot(const char *word);                                  /* by its number or name; SHE_SLOTS for another word */
 uint32_t slot_of(const char *word);                                    /* likewise, but another word is refused */
 uint32_t find_flag(const char *word);                                  /* by its name; 0 for another word */
-uint32_t flags_of(char **words);                           /* up to a null; another word, or one twice, is refused */
+uint32_t flags_of(char **words);                                       /* up to a null; another word, or one twice, is refused */
 void add_flags(struct text *text, uint32_t flags);
 
 /* ---- input.c: bytes in hexadecimal digits, and texts from outside; what isn't right is refused */
