@@ -4,11 +4,10 @@
 # gcc's checkers in it.
 set -eu
 cd "$(dirname "$0")/.."
+. tools/flags.sh
 out=target/native
 sh tools/native-archive.sh she
 sh tools/native-archive.sh garage
-warnings="-Wall -Wextra -Wpedantic -Werror"
-checkers="-g -O1 -fsanitize=address,undefined -fno-sanitize-recover=all"
 rustc --edition 2021 -O -C panic=abort --crate-type staticlib -D warnings tests/lockstep/second/lib.rs -o "$out/libsecond.a"
 rustc --edition 2021 -O -D warnings tests/lockstep/second/main.rs -o "$out/second"
 compile() { # PROGRAM FLAGS SOURCE.. : every word of the flags by itself

@@ -1,20 +1,19 @@
 #!/bin/sh
 # build-garage.sh [SUFFIX FLAG..]: compiles the foreman's command and the board to try it on, over the libraries in target/native/, into
-# that folder as garage and garage-board, with the suffix.
+# that folder as garage and garage-board, with the suffix. A flag may be a further file.
 set -eu
 cd "$(dirname "$0")/.."
+. tools/flags.sh
 out=target/native suffix=${1-}
 [ $# -eq 0 ] || shift
-compile() { # PROGRAM FILE..
+flags=${*:--O2}
+shared="garage/command.c garage/input.c garage/store.c garage/tell.c garage/words.c"
+compile() { # PROGRAM FILE..; what is linked is linked whole at the start, as docs/DECISIONS.md says
     program=$1
     shift
     # shellcheck disable=SC2086
-    gcc -std=c11 -D_DEFAULT_SOURCE -Wall -Wextra -Wpedantic -Werror -Wl,-z,now $flags -Iinclude "$@" "$out/libgarage.a" "$out/libshe.a" \
+    gcc -std=c11 -D_DEFAULT_SOURCE $warnings -Wl,-z,now $flags -Iinclude "$@" $shared "$out/libgarage.a" "$out/libshe.a" \
         -o "$out/$program$suffix"
 }
-flags=${*:--O2}
-shared="garage/command.c garage/input.c garage/store.c garage/tell.c garage/words.c"
-# shellcheck disable=SC2086
-compile garage garage/garage.c garage/book.c $shared
-# shellcheck disable=SC2086
-compile garage-board garage/board.c $shared
+compile garage garage/garage.c garage/book.c
+compile garage-board garage/board.c

@@ -20,6 +20,7 @@ is_newest() {
 if is_of_this_kit && is_newest; then
     exit 0
 fi
+rm -f "$made"
 rt version >"$began"
 finish() { # cp or mv; an edit of the crates after the start is newer than the archive
     $1 "target/staticlib/lib$crate.a" "$made"

@@ -6,18 +6,16 @@ cd "$(dirname "$0")/../.." || exit 2
 out=target/native what=Garage
 . tests/steps.sh
 
-# The command and the board to try it on, also with gcc's checkers; what reads words, for random ones; and the command inside a
-# program that looks into its own memory.
+. tools/flags.sh
+
+# The command and the board to try it on, also with gcc's checkers; and with another `main`, which draws random words for what reads
+# words, or looks into its own memory before the command ends.
 build() {
-    checkers="-g -O1 -fsanitize=address,undefined -fno-sanitize-recover=all"
     sh tools/native-archive.sh she && sh tools/native-archive.sh garage || return 1
     # shellcheck disable=SC2086
-    sh tools/build-garage.sh && sh tools/build-garage.sh -checked $checkers || return 1
-    compile="gcc -std=c11 -D_DEFAULT_SOURCE -Wall -Wextra -Wpedantic -Werror -Iinclude"
-    $compile $checkers tests/garage/words.c garage/words.c garage/tell.c -o "$out/garage-words" || return 1
-    $compile -O2 -Dmain=command_main -c garage/garage.c -o "$out/garage-main.o" || return 1
-    $compile -O2 -Wl,-z,now tests/garage/wiped.c "$out/garage-main.o" garage/book.c garage/command.c garage/input.c garage/store.c \
-        garage/tell.c garage/words.c "$out/libgarage.a" "$out/libshe.a" -o "$out/garage-wiped" || return 1
+    sh tools/build-garage.sh && sh tools/build-garage.sh -checked $checkers &&
+        sh tools/build-garage.sh -words $checkers -Dmain=command_main tests/garage/words.c &&
+        sh tools/build-garage.sh -wiped -O2 -Dmain=command_main tests/garage/wiped.c || return 1
     echo "the command, the board, and what tests them are built"
 }
 

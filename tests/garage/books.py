@@ -103,8 +103,8 @@ def altered():
 def own():
     """readable by its owner alone, whatever the shell's mask is"""
     with Bench() as bench:
+        bench.furnish()
         for mask in ("0", "022", "077", "0777"):
-            bench.furnish() if mask == "0" else None
             bench.does(f"umask {mask}; garage new {mask}.book $BUS && garage write {mask}.book 1 1 && {WRITE}")
             for name in (f"{mask}.book", "bus.book"):
                 mode = (bench.folder / name).stat().st_mode & 0o777
@@ -176,9 +176,9 @@ def cut(line, prepare, again, letter=""):
         new = state_of(bench)
         check(old != new and printed, f"{line} changes nothing")
         trace = bench.read("trace").decode(errors="replace")
-        out = r"write\(\d+, \S+, (?:33|65)\)|" * bool(letter) + r"write\(1, "
-        check(re.search(rf"fsync\(.*renameat\(.*fsync\(.*(?:{out})", trace, re.S), f"the order of {line}:\n{trace}")
-        check(not re.search(rf"(?:{out}).*fsync\(", trace, re.S), f"printed before it is saved:\n{trace}")
+        gives = r"write\(\d+, \S+, (?:33|65)\)" if letter else r"write\(1, "
+        check(re.search(rf"fsync\(.*renameat\(.*fsync\(.*{gives}", trace, re.S), f"the order of {line}:\n{trace}")
+        check(not re.search(rf"{gives}.*fsync\(", trace, re.S), f"printed before it is saved:\n{trace}")
         locked = calls.index("flock")
         faults = [(i, "signal=KILL") for i in range(1, len(calls))]
         # brk, by which memory is asked for, has no errors to give
@@ -200,8 +200,12 @@ def cut(line, prepare, again, letter=""):
                 check(status == 0 or ("as it was" in said) <= (state == old) and ("is saved" in said) <= (state == new), f"{where}: {said}")
                 check(not letter or status == 0 or not out, f"{where}: refused, and a letter is left")
                 errors += status == 2
-            # if the old book is there, it is as if nothing had been; if the new one, the message is there once more, or the yes is over
-            bench.does(*((line + letter, 0, printed) if state == old else (again + letter, *((0, printed) if "write" in line else (1, "no\n")))))
+            if state == old:  # as if nothing had been
+                bench.does(line + letter, 0, printed)
+            elif "write" in line:  # the message is there once more
+                bench.does(again + letter, 0, printed)
+            else:  # the yes is over
+                bench.does(again, 1, "no\n")
             check(state_of(bench) == new and not (bench.folder / ".garage-new").exists(), f"{where}: and the same again fails")
     return kills, errors
 

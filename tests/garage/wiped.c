@@ -3,7 +3,6 @@
  * as bytes, or as a text; and whether the process may leave a core file. It is compiled with the command's own files, whose `main`
  * is called command_main here. The status is the command's, or 9 where a key is found or a core file may be left. */
 #include <inttypes.h>
-#include <stdint.h>
 #include <stdio.h>
 #include <stdlib.h>
 #include <string.h>
@@ -11,6 +10,7 @@
 #include <sys/syscall.h>
 #include <unistd.h>
 
+#undef main /* which is the command's here */
 int command_main(int count, char **words);
 
 static uint8_t turned[16][16]; /* the keys, each bit turned round */

@@ -3,9 +3,9 @@
  * status is 0 only where all agree, and each kind was met and missed often. */
 #include "../../garage/command.h"
 
-#include <stdio.h>
 #include <stdlib.h>
-#include <string.h>
+
+#undef main /* which is the command's here */
 
 static const char *const slot_words[] = {
     "SECRET_KEY", "MASTER_ECU_KEY", "BOOT_MAC_KEY", "BOOT_MAC", "KEY_1", "KEY_2", "KEY_3", "KEY_4", "KEY_5", "KEY_6",
