@@ -48,7 +48,7 @@ class Bench:
                 command.write_text("#!/bin/sh\nexec " + BUILDS[build].format(native=NATIVE, name=name) + "\n")
                 command.chmod(0o755)
         self.environment = {**os.environ, "PATH": f"{self.bin}:{os.environ['PATH']}", "BUS": UID,
-                            "ASAN_OPTIONS": "detect_leaks=0"}
+                            "ASAN_OPTIONS": "detect_leaks=0:exitcode=99", "UBSAN_OPTIONS": "exitcode=99"}  # which is no status of ours
 
     def __enter__(self):
         return self

@@ -174,6 +174,7 @@ def lines():
             check(ran.returncode in counted, f"{line}: status {ran.returncode}, {said}")
             one_line = re.fullmatch(r"garage: [^\n]* \(\d+ [A-Z_]+\)\n", said)
             check(ran.returncode != 2 or (one_line and not ran.stdout), f"{line}: {said}, {ran.stdout}")
+            check(ran.returncode != 1 or ran.stdout == b"no\n", f"{line}: a no that isn't one: {said}")
             counted[ran.returncode] += 1
         bench.does("garage show bus.book")
     check(min(counted.values()) > 20, f"too few of a status: {counted}")
