@@ -33,10 +33,10 @@ pub fn look_up(table: &[u8; 256], byte: u8) -> u8
     table[byte as usize]
 }
 
-// The byte times x: a shift, and {1b} is added if a bit fell out.
+// The byte times x: a shift, and {1b} is added if a bit fell out. There is no branch: that bit, 0 or 1, is multiplied by {1b}.
 pub fn double(byte: u8) -> u8
     ensures { λ r. ⌜ r ≡ xtime byte ⌝ }
 {
-    let reduction: u8 = if 128 <= byte { 0x1b } else { 0 };
+    let reduction = (byte >> 7) * 0x1b;
     byte << 1 ^ reduction
 }
