@@ -2,6 +2,8 @@
 //
 // A key schedule is made once and lent to each block. The S-box is made once a block and lent to each round: making it where
 // it is read would lay all of its 256 bytes on the stack at every lookup.
+#![tactic(auto)]
+
 ghost use Rattle.std.specs.Prelude.{◌≡◌, ℕ, ◌+◌, ◌-◌, ◌*◌, ◌<◌, ◌≤◌, length, take};
 ghost use Rattle.std.proofs.Math.Seq.{paste};
 ghost use Rattle.laws.specs.Tabulate.{tabulate};

@@ -1,5 +1,7 @@
 // What every layer above the engine shares: the numbers of the answers, marks, numbers that come in wide, and texts read and
 // compared whatever their lengths are.
+#![tactic(auto)]
+
 ghost use Rattle.std.specs.Prelude.{◌≡◌};
 ghost use Rattle.laws.specs.Same.{same};
 ghost use Rattle.aes.specs.State.{byte, Bytes};

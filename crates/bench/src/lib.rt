@@ -1,4 +1,6 @@
 // What `make bench` measures beside what firmware calls: the engine on whole arrays, with a schedule that is kept.
+#![tactic(auto)]
+
 ghost use Rattle.std.specs.Prelude.{◌≡◌};
 ghost use Rattle.aes.specs.Schedule.{key_expansion};
 ghost use Rattle.aes.specs.Cipher.{cipher_with, inv_cipher_with, cipher};

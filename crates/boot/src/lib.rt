@@ -2,6 +2,8 @@
 // device by value and hands it back.
 //
 // As in the other commands, the answer comes first, on numbers alone, and a refusal hands back the device as it came in.
+#![tactic(auto)]
+
 ghost use Rattle.std.specs.Prelude.{true, ◌≡◌, []};
 ghost use Rattle.device.specs.Account.{perform, answer_by};
 ghost use Rattle.device.specs.Outcome.{outcome};

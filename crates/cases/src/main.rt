@@ -51,6 +51,8 @@
 //     UID, seed, state, random key         the last two are those of the random numbers
 //     marks 0100000101010000010000         initialised, not plain, no debugger, made, booted since reset, and of the status
 //                                          SECURE_BOOT, no BOOT_INIT, no BOOT_FINISHED, BOOT_OK; the last two have no meaning yet
+#![tactic(auto)]
+
 use commands::Verdict;
 use device::{Device, Reply};
 use garage::Book;

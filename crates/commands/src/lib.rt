@@ -2,6 +2,8 @@
 //
 // Every command decides first, on numbers alone, by the order of the checks in its account, and a refusal hands back
 // the device as it came in, with no buffer touched. Only then is a key used.
+#![tactic(auto)]
+
 ghost use Rattle.std.specs.Prelude.{◌≡◌, ◌∷◌, [], ◌++◌, ◌<◌, length};
 ghost use Rattle.aes.specs.State.{byte};
 ghost use Rattle.device.specs.Account.{perform, answer_by};

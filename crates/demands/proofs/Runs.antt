@@ -2,7 +2,7 @@
 -- the statements about runs are inductions over it.
 -- Assumes nothing.
 use mathlib.Core.Path.{◌≡◌, refl, sym, ap, ap₂, ◌∙◌, subst}
-use mathlib.Core.Bool.{Bool, true, false, cond, ◌&&◌, and_true, and-false, true≢false}
+use mathlib.Core.Bool.{Bool, true, false, cond, ◌&&◌, and-true, and-false, true≢false}
 use mathlib.Core.List.{List, [], ◌∷◌}
 use Prim.Native.Nat.{ℕ, suc, ◌+◌, ◌≤◌, ◌<◌}
 use native.Mathlib.Omega.{arith}
@@ -61,7 +61,7 @@ module _ (n : ℕ) (few : n ≤ 100) (d : Device) (sound : Sound d) (call : Call
         is_full : answer_to (account n call) d ≡ 0 → Among s (account n call).fills → is_empty d s ≡ false
         is_full none filled =
             sym (ap₂ (λ (x y : Bool). x && is_empty d s && y) (among_tested s (account n call).fills filled) (answers none)
-            ∙ and_true (is_empty d s)) ∙ full
+            ∙ and-true (is_empty d s)) ∙ full
 
     -- and the counter of one that was loaded has risen
     step_raises : is_load_of n s (call, step n d call) ≡ true → (1 ≤ s) × (counter_at d s < counter_at (step n d call).device s)

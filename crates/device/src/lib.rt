@@ -2,6 +2,8 @@
 //
 // A record is plain data that anyone could have filled, so nothing in it is believed before `is_made`. Slot numbers are bytes
 // from 0 to 255 and stay so: to read what is no slot gives zeros, and to put something there changes nothing.
+#![tactic(auto)]
+
 ghost use Rattle.std.specs.Prelude.{◌≡◌, ◌≤◌};
 ghost use Rattle.device.specs.Made.{slot_fine, slots_fine, marks_fine, made, new_marks, unset, blank, fresh};
 ghost use Rattle.device.specs.Record.{is_marked, key_at, counter_at, empty_at, flags_at, is_empty, set_marks, put_slot, Shaped};

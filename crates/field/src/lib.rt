@@ -2,6 +2,8 @@
 //
 // The language has no static data: a constant table is laid on the stack where it is used. So a table is asked for once,
 // outside every loop, and lent down.
+#![tactic(auto)]
+
 mod inv_sbox;
 mod sbox;
 

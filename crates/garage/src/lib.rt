@@ -4,6 +4,8 @@
 // A book is plain data that anyone could have filled, so nothing in it is believed before `is_open`. Numbers come in as wide as C
 // has them, and one that is too wide is the largest of its place and never its last digits: the promises are of the number as it
 // came in. So target 0x11 is no target here.
+#![tactic(auto)]
+
 ghost use Rattle.std.specs.Prelude.{◌≡◌, true, cond, ◌∷◌, [], ◌≤◌, leb, length, get_or, replicate};
 ghost use Rattle.std.proofs.Math.Seq.{paste};
 ghost use Rattle.laws.specs.All.{all};

@@ -1,7 +1,7 @@
 -- The test of two lists: it passes exactly where they are equal; and a loop that makes it number by number.
 -- Assumes nothing.
 use mathlib.Core.Path.{◌≡◌, refl, sym, ap, ap₂, ◌∙◌}
-use mathlib.Core.Bool.{Bool, true, false, ◌&&◌, and_assoc, and_true, and-false, false≢true}
+use mathlib.Core.Bool.{Bool, true, false, ◌&&◌, and_assoc, and-true, and-false, false≢true}
 use mathlib.Core.List.{List, [], ◌∷◌}
 use Prim.Native.Nat.{ℕ, zero, suc, ◌+◌, ◌<◌}
 use native.Mathlib.Numerals.{add-one}
@@ -44,7 +44,7 @@ pub same_more : (a b : List ℕ) (i : ℕ) → i < length a → i < length b
 unfolding same
 same_more [] b i ha hb = absurd (omega arith)
 same_more (x ∷ a) [] i ha hb = absurd (omega arith)
-same_more (x ∷ a) (y ∷ b) zero ha hb = sym (and_true (eqb x y))
+same_more (x ∷ a) (y ∷ b) zero ha hb = sym (and-true (eqb x y))
 same_more (x ∷ a) (y ∷ b) (suc i) ha hb =
     and_assoc (eqb x y) (same (take i a) (take i b)) (eqb (get_or a i 0) (get_or b i 0))
     ∙ ap (λ (t : Bool). eqb x y && t) (same_more a b i (omega arith) (omega arith))

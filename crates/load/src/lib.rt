@@ -2,6 +2,8 @@
 //
 // The checks stand in the order of `specs/Load.antt`. Up to the six that guard the authority no key is used; the message is opened
 // only then, and the proof M4 and M5 is written only when all ten have passed.
+#![tactic(auto)]
+
 ghost use Rattle.std.specs.Prelude.{◌≡◌, true, ◌∷◌, [], ◌≤◌, length};
 ghost use Rattle.laws.specs.Lengths.{right_lengths};
 ghost use Rattle.message.specs.FirstBlock.{max_counter};

@@ -10,7 +10,7 @@ use mathlib.Core.Logic.{◌↔◌}
 use Prim.Native.Nat.{ℕ, ◌+◌, ◌*◌, ◌/◌, ◌%◌, ◌^◌, ◌≤◌, ◌<◌}
 use native.Mathlib.Omega.{arith}
 use borrow.Author.Tests.{eqb-true}
-use lib.ListN.{length, take, drop, length_append, take-append-drop, drop_of_length-le}
+use lib.ListN.{length, take, drop, length-append, take-append-drop, drop_of_length-le}
 use lib.Seq.{take_at, drop_at, get_or_at, split_at}
 use Rattle.laws.specs.Lengths.{right_lengths}
 use Rattle.laws.specs.Same.{same}
@@ -39,7 +39,7 @@ use Rattle.message.proofs.FirstBlock.{first_block_lem, counter_packed, flags_pac
 -- ---- M1 is its parts, and determines them
 pub m1_long : (uid : List ℕ) (t a : ℕ) → length uid ≡ 15 → length (m1 uid t a) ≡ 16
 unfolding m1
-m1_long uid t a long = length_append uid _ ∙ ap (λ (k : ℕ). k + 1) long
+m1_long uid t a long = length-append uid _ ∙ ap (λ (k : ℕ). k + 1) long
 
 pub m1_parts : (first : List ℕ) → length first ≡ 16 → first ≡ m1 (uid_of first) (target_of first) (authority_of first)
 unfolding m1
@@ -74,7 +74,7 @@ module _ (auth_key : List ℕ) (hs : Block auth_key) where
   built_clear n c f key hk =
       let block = first_block_lem n c f in
       record {
-        long = length_append (first_block n c f) key ∙ ap₂ (λ (m k : ℕ). m + k) block.long hk.long;
+        long = length-append (first_block n c f) key ∙ ap₂ (λ (m k : ℕ). m + k) block.long hk.long;
         small = append_bytes (first_block n c f) key block.small hk.small;
       }
 
@@ -222,7 +222,7 @@ one_to_one n few auth_key uid uid' key key' t a c f t' a' c' f' hs long long' sm
 pub m4_long : (uid key : List ℕ) (t a c : ℕ) → length uid ≡ 15 → Block key → length (m4 uid t a c key) ≡ 32
 unfolding m4
 m4_long uid key t a c long hk =
-    length_append (m1 uid t a) _ ∙ ap₂ (λ (m k : ℕ). m + k) (m1_long uid t a long) (cipher_block (enc_key key) _ (k1_block key hk)).long
+    length-append (m1 uid t a) _ ∙ ap₂ (λ (m k : ℕ). m + k) (m1_long uid t a long) (cipher_block (enc_key key) _ (k1_block key hk)).long
 
 pub m5_long : (key four : List ℕ) → Block key → length (m5 key four) ≡ 16
 unfolding m5

@@ -3,6 +3,8 @@
 //
 // A slot number is a byte from 0 to 255, and nothing here cuts bits from it: 15 to 255 are no slot. Whoever asks for one is
 // refused, and a refusal writes nothing. `authkey` is the authority's key throughout, and `key` the new one.
+#![tactic(auto)]
+
 ghost use Rattle.std.specs.Prelude.{◌≡◌, ◌++◌, ◌∷◌, [], ◌+◌, ◌≤◌, ◌<◌, eqb, length, take, drop};
 ghost use Rattle.std.proofs.Math.Seq.{paste};
 ghost use Rattle.laws.specs.Lengths.{right_lengths};

@@ -4,7 +4,7 @@ use mathlib.Core.Path.{◌≡◌, sym, ap, ap₂, ◌∙◌}
 use mathlib.Core.List.{List, [], ◌∷◌, ◌++◌}
 use Prim.Native.Nat.{ℕ, zero, suc, ◌*◌, ◌/◌, ◌≤◌, ◌<◌}
 use native.Mathlib.Omega.{arith}
-use lib.ListN.{length, take, drop, length_append, length-drop}
+use lib.ListN.{length, take, drop, length-append, length-drop}
 use lib.Seq.{take_all, take-append-le, drop-append-le}
 use Rattle.modes.specs.Blocks.{parse, blocks}
 
@@ -29,7 +29,7 @@ blocks_append zero [] t h = ap (λ (b : List (List ℕ)). b ++ blocks t) (sym (b
 blocks_append zero (x ∷ s) t h = absurd (omega arith)
 blocks_append (suc n) s t h =
     let enough : 16 ≤ length s = omega arith in
-    blocks_more (s ++ t) (omega (arith, length_append s t))
+    blocks_more (s ++ t) (omega (arith, length-append s t))
     ∙ ap₂ (λ (x y : List ℕ). x ∷ blocks y) (take-append-le 16 s t enough) (drop-append-le 16 s t enough)
     ∙ ap (λ (b : List (List ℕ)). take 16 s ∷ b) (blocks_append n (drop 16 s) t (length-drop 16 s ∙ omega arith))
     ∙ ap (λ (b : List (List ℕ)). b ++ blocks t) (sym (blocks_more s enough))

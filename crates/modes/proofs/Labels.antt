@@ -5,7 +5,7 @@ use mathlib.Core.List.{List, ◌++◌, append_assoc}
 use Prim.Native.Nat.{ℕ, ◌+◌, ◌*◌, ◌^◌, ◌%◌, ◌<◌}
 use native.Mathlib.Nat.{mod-eq_of_lt}
 use native.Mathlib.Omega.{arith}
-use lib.ListN.{length, length_append}
+use lib.ListN.{length, length-append}
 use Rattle.modes.proofs.InBytes.{number_in_bytes}
 use Rattle.modes.specs.Compression.{compress, kdf, zero_bits, padding, preprocessed}
 use Rattle.modes.specs.Constants.{constant_of, label}
@@ -35,7 +35,7 @@ pub kdf_preprocessed : (key constant : List ℕ) (number : ℕ) → length key �
     → kdf key constant ≡ compress (preprocessed (key ++ label number))
 unfolding kdf preprocessed
 kdf_preprocessed key constant number long e =
-    let bits : 8 * length (key ++ label number) ≡ 176 = omega (arith, length_append key (label number)) in
+    let bits : 8 * length (key ++ label number) ≡ 176 = omega (arith, length-append key (label number)) in
     ap compress
     (ap (λ (c : List ℕ). key ++ c) e ∙ sym (append_assoc key (label number) (padding 176)) ∙ ap (λ (l : ℕ). key ++ label number ++ padding l) (sym bits))
 

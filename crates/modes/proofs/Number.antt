@@ -10,7 +10,7 @@ use native.Mathlib.Numerals.{add-one}
 use native.Mathlib.Omega.{arith}
 use lib.Dec.{eqb, lit<}
 use lib.Pow.{pow-add, pow_pos, shr-shr, high}
-use lib.ListN.{length, take, drop, replicate, length_append, length-drop, length-replicate}
+use lib.ListN.{length, take, drop, replicate, length-append, length-drop, length-replicate}
 use lib.Seq.{split_at}
 use Rattle.laws.specs.Tabulate.{tabulate}
 use Rattle.laws.specs.Xor.{◌xor◌}
@@ -44,7 +44,7 @@ number_append [] y = sym (ap (λ (n : ℕ). n + number y) (zero-mul (256 ^ lengt
 number_append (b ∷ bs) y =
     let p : ℕ = 256 ^ length bs in
     let q : ℕ = 256 ^ length y in
-    ap₂ (λ (m n : ℕ). b * m + n) (ap (λ (k : ℕ). 256 ^ k) (length_append bs y) ∙ pow-add 256 (length bs) (length y)) (number_append bs y)
+    ap₂ (λ (m n : ℕ). b * m + n) (ap (λ (k : ℕ). 256 ^ k) (length-append bs y) ∙ pow-add 256 (length bs) (length y)) (number_append bs y)
     ∙ omega (arith, mul_assoc b p q, add-mul (b * p) (number bs) q)
 
 pub number_zeros : (n : ℕ) → number (replicate n 0) ≡ 0

@@ -6,7 +6,7 @@ use mathlib.Core.List.{List, [], ◌∷◌, ◌++◌, foldl, foldl-append}
 use Prim.Native.Nat.{ℕ, zero, suc, ◌+◌, ◌-◌, ◌*◌, ◌/◌, ◌%◌, ◌≤◌, ◌<◌}
 use native.Mathlib.Nat.{zero-add}
 use native.Mathlib.Omega.{arith}
-use lib.ListN.{length, take, drop, replicate, length_append, length-drop, length-replicate}
+use lib.ListN.{length, take, drop, replicate, length-append, length-drop, length-replicate}
 use lib.Seq.{get_or-take, take_all, take_at, take-append-le, drop-append-le, take-append-add, drop-append-add}
 use Rattle.laws.proofs.Tabulate.{tabulate_same, tabulate_own}
 use Rattle.field.specs.Field.{bit}
@@ -34,7 +34,7 @@ unfolding block_at
 filled_block s h =
     tabulate_same 16 _ _ (λ i l. ap (byte s) (zero-add i) ∙ sym (then_zeros s (16 - length s) i))
     ∙ tabulate_own 16 (s ++ replicate (16 - length s) 0)
-    (length_append s (replicate (16 - length s) 0) ∙ omega (arith, length-replicate {A = ℕ} (16 - length s) 0))
+    (length-append s (replicate (16 - length s) 0) ∙ omega (arith, length-replicate {A = ℕ} (16 - length s) 0))
 
 -- how many blocks so many bytes are
 count_bytes : (n : ℕ) → (8 * n + 127) / 128 ≡ (n + 15) / 16
@@ -43,7 +43,7 @@ count_bytes n = omega arith
 whole_long : (text : List ℕ) → length (whole_blocks text) ≡ 16 * block_count (8 * length text)
 whole_long text =
     let n : ℕ = 16 * block_count (8 * length text) - length text in
-    length_append text (replicate n 0) ∙ omega (arith, length-replicate {A = ℕ} n 0, count_bytes (length text))
+    length-append text (replicate n 0) ∙ omega (arith, length-replicate {A = ℕ} n 0, count_bytes (length text))
 
 -- ---- the bytes after the text do not count: whatever fills its last block, CMAC of so many bits is that of the text
 module _ (text message : List ℕ) (long : length message ≡ 16 * block_count (8 * length text)) (begins : take (length text) message ≡ text) where
@@ -70,7 +70,7 @@ module _ (ciph : List ℕ → List ℕ) (first text : List ℕ) (long : length f
   zeros = replicate (16 * block_count (8 * length (first ++ text)) - length (first ++ text)) 0
 
   all_long : length (first ++ text) ≡ 16 + length text
-  all_long = length_append first text ∙ ap (λ (n : ℕ). n + length text) long
+  all_long = length-append first text ∙ ap (λ (n : ℕ). n + length text) long
 
   -- where there is no text the first block is the last
   pub first_alone : (t : List ℕ) → length text ≡ 0 → t ≡ chained ciph zero_block (last_block ciph 128 first)

@@ -6,7 +6,7 @@ use mathlib.Core.List.{List, [], ◌∷◌, ◌++◌, flatten}
 use Prim.Native.Nat.{ℕ, zero, suc, ◌+◌, ◌*◌}
 use native.Mathlib.Omega.{arith}
 use lib.Dec.{lit<}
-use lib.ListN.{length, take, drop, length_append, length-drop, take-append-drop}
+use lib.ListN.{length, take, drop, length-append, length-drop, take-append-drop}
 use lib.Seq.{length-take-le}
 use Rattle.laws.specs.Xor.{◌xor◌}
 use Rattle.laws.proofs.Tabulate.{get_d_tabulate, tabulate_same, tabulate_own}
@@ -71,7 +71,7 @@ flatten_text [] all = record { long = refl; small = λ i. lit< tt }
 flatten_text (b ∷ bs) all =
     let t = flatten_text bs all.1 in
     record {
-      long = length_append b (flatten bs) ∙ omega (arith, all.0.long, t.long);
+      long = length-append b (flatten bs) ∙ omega (arith, all.0.long, t.long);
       small = append_bytes b (flatten bs) all.0.small t.small;
     }
 

@@ -3,6 +3,8 @@
 //
 // A routine on lent buffers looks at all lengths first, and writes nothing before it is sure to succeed. Key schedules are
 // made once a call. Blocks are arrays by value between a `load` and a `store`; compiled, they stay in registers.
+#![tactic(auto)]
+
 mod constants;
 
 ghost use Rattle.std.specs.Prelude.{◌≡◌, ◌+◌, ◌*◌, ◌%◌, ◌≤◌, ◌<◌, length, take, drop};

@@ -5,7 +5,7 @@ use mathlib.Core.Bool.{true, false, cond, false≢true}
 use mathlib.Core.List.{List}
 use Prim.Native.Nat.{ℕ, zero, suc, ◌+◌, ◌*◌, ◌/◌, ◌≤◌, ◌<◌}
 use native.Mathlib.Omega.{arith}
-use lib.ListN.{length, replicate, length_append, get_or-replicate, get_or-append}
+use lib.ListN.{length, replicate, length-append, get_or-replicate, get_or-append}
 use Rattle.laws.specs.Tabulate.{tabulate}
 use Rattle.laws.proofs.Tabulate.{get_d_tabulate, tabulate_same, tabulate_own}
 use Rattle.aes.specs.State.{byte, Bytes}
@@ -43,7 +43,7 @@ module _ (uid secret seed : List ℕ) (long : length uid ≡ 15) (named : uid �
   can_open : CanOpen uid (secret_alone secret) first_held (replicate 13 0)
   can_open = (
     long,
-    length_append secret (replicate 224 0) ∙ ap (λ (n : ℕ). n + 224) key-long,
+    length-append secret (replicate 224 0) ∙ ap (λ (n : ℕ). n + 224) key-long,
     refl,
     refl,
     named,

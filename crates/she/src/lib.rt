@@ -3,6 +3,8 @@
 //
 // Numbers come in wider than the core takes them, and a number too wide is the largest of its place and never its last digits. The
 // promises don't speak of that: each is the core's own definition, of the number as it came in. So slot 0x104 is no slot here.
+#![tactic(auto)]
+
 ghost use Rattle.std.specs.Prelude.{◌≡◌, ◌∷◌, []};
 ghost use Rattle.basics.specs.Wide.{saturated};
 ghost use Rattle.modes.specs.Routines.{ecb_encryption, ecb_decryption, cbc_encryption, cbc_decryption, authentication, derivation};

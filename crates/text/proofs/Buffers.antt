@@ -7,7 +7,7 @@ use native.Mathlib.Decide.{dec_le}
 use native.Mathlib.Nat.{lt_of_not-le}
 use native.Mathlib.Numerals.{add-one}
 use native.Mathlib.Omega.{arith}
-use lib.ListN.{length, take, drop, get_or, set, length_append, length-take, length-drop, drop_of_length-le, take-append-drop}
+use lib.ListN.{length, take, drop, get_or, set, length-append, length-take, length-drop, drop_of_length-le, take-append-drop}
 use lib.Seq.{take-nil, take_all, take-suc, take-append-le, length-take-le, drop-cons, append_snoc, set-append_seam, set_out}
 use Rattle.text.specs.Buffers.{over}
 
@@ -19,7 +19,7 @@ over_none b = ap (λ (l : List ℕ). l ++ b) (take-nil (length b))
 put_next : (s b : List ℕ) (v : ℕ) → length s < length b → set (over s b) (length s) v ≡ over (s ++ (v ∷ [])) b
 unfolding over
 put_next s b v room =
-    let more : length (s ++ (v ∷ [])) ≡ suc (length s) = length_append s (v ∷ []) ∙ add-one (length s) in
+    let more : length (s ++ (v ∷ [])) ≡ suc (length s) = length-append s (v ∷ []) ∙ add-one (length s) in
     ap₂ (λ (x y : List ℕ). set (x ++ y) (length s) v) (take_all (length b) s (omega arith)) (drop-cons b (length s) 0 room)
     ∙ set-append_seam s (get_or b (length s) 0) (drop (suc (length s)) b) v
     ∙ sym (append_snoc s v (drop (suc (length s)) b))
@@ -30,12 +30,12 @@ over_past : (s t b : List ℕ) → length b ≤ length s → over (s ++ t) b ≡
 unfolding over
 over_past s t b full =
     ap₂ (λ (x y : List ℕ). x ++ y) (take-append-le (length b) s t full)
-    (drop_of_length-le b {i = length (s ++ t)} (omega (arith, length_append s t)) ∙ sym (drop_of_length-le b {i = length s} full))
+    (drop_of_length-le b {i = length (s ++ t)} (omega (arith, length-append s t)) ∙ sym (drop_of_length-le b {i = length s} full))
 
 length_over : (s b : List ℕ) → length (over s b) ≡ length b
 unfolding over
 length_over s b =
-    length_append (take (length b) s) (drop (length s) b) ∙ omega (arith, length-take (length b) s, length-drop (length s) b)
+    length-append (take (length b) s) (drop (length s) b) ∙ omega (arith, length-take (length b) s, length-drop (length s) b)
 
 pub over_more : (s b : List ℕ) (v : ℕ) → set (over s b) (length s) v ≡ over (s ++ (v ∷ [])) b
 over_more s b v = cases (dec_le (length b) (length s))

@@ -8,7 +8,7 @@ use native.Mathlib.Numerals.{add-one}
 use native.Mathlib.Omega.{arith}
 use borrow.Author.Tests.{lt-ltb, le-ltb, eqb-true, eqb-false}
 use lib.Dec.{eqb, ltb}
-use lib.ListN.{length, take, get_or, set, length_append}
+use lib.ListN.{length, take, get_or, set, length-append}
 use lib.Seq.{take-suc, take_all, get_or-append_seam}
 use Rattle.bytes.specs.Bytes.{index_of, index_after}
 use Rattle.laws.specs.All.{all}
@@ -68,11 +68,11 @@ read_none b = (refl, refl, sym (over_none b))
 read_more : (b w u l : List ℕ) (count high d : ℕ) → u ≡ cond (eqb (count % 2) 0) w (set w (count / 2) (16 * high + d))
     → Read b w l count high → Read b u (l ++ (d ∷ [])) (count + 1) d
 read_more b w u l count high d made (counted, last, bytes) =
-    (ap (λ (n : ℕ). n + 1) counted ∙ sym (length_append l (d ∷ [])), sym seam, made ∙ put (eqb (count % 2) 0) refl)
+    (ap (λ (n : ℕ). n + 1) counted ∙ sym (length-append l (d ∷ [])), sym seam, made ∙ put (eqb (count % 2) 0) refl)
   where
     seam : get_or (l ++ (d ∷ [])) (length (l ++ (d ∷ [])) - 1) 0 ≡ d
     seam =
-        let at : length (l ++ (d ∷ [])) - 1 ≡ length l = omega (arith, length_append l (d ∷ [])) in
+        let at : length (l ++ (d ∷ [])) - 1 ≡ length l = omega (arith, length-append l (d ∷ [])) in
         ap (λ (k : ℕ). get_or (l ++ (d ∷ [])) k 0) at ∙ get_or-append_seam l d [] 0
 
     put : (t : Bool) → eqb (count % 2) 0 ≡ t → cond t w (set w (count / 2) (16 * high + d)) ≡ over (pairs (l ++ (d ∷ []))) b

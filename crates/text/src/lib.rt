@@ -1,5 +1,7 @@
 // What programs share in reading a text and in writing one: parts of it, numbers for a parameter, and hexadecimal digits. Nothing
 // here reads or writes a file: a program does, by its own call of the kit's library.
+#![tactic(auto)]
+
 ghost use Rattle.std.specs.Prelude.{◌≡◌, cond, ◌-◌, ◌*◌, ◌/◌, ◌%◌, ◌≤◌, min, eqb, length, take, drop, get_or, set};
 ghost use Rattle.bytes.specs.Bytes.{index_of};
 ghost use Rattle.text.specs.Buffers.{HasFront, over};

@@ -36,6 +36,8 @@
 //     P target / authority             the target's kind, its three roles, the flags that it keeps, 1 as it keeps a counter;
 //                                      whether the pair is allowed
 //     B byte                           target and authority of a slot byte
+#![tactic(auto)]
+
 ghost use Rattle.text.specs.Buffers.{HasFront};
 
 use libc::{STDIN_FILENO, STDOUT_FILENO};

@@ -5,7 +5,7 @@ use Rattle.aes.specs.State.{byte}
 use Rattle.laws.proofs.Tabulate.{fill, filled, tabulate_own}
 use Rattle.laws.specs.Tabulate.{tabulate}
 use borrow.Author.Rules.{rules}
-use lib.ListN.{length, take, length_append}
+use lib.ListN.{length, take, length-append}
 use mathlib.Core.List.{◌++◌}
 use mathlib.Core.Path.{◌≡◌, ap₂, ◌∙◌}
 use Rattle.commands.proofs.join.Statement.{statement}
@@ -42,7 +42,7 @@ returns c = let l = c.before.loop in
     let s = c.before.before.args in
     let long-a : length s.a ≡ 16 = search rules in
     let long-b : length s.b ≡ 16 = search rules in
-    filled _ l.both l.i 32 l.invariant.1 (search rules) l.invariant.2 ∙ tabulate_own 32 (s.a ++ s.b) (length_append s.a s.b ∙ ap₂ ◌+◌ long-a long-b)
+    filled _ l.both l.i 32 l.invariant.1 (search rules) l.invariant.2 ∙ tabulate_own 32 (s.a ++ s.b) (length-append s.a s.b ∙ ap₂ ◌+◌ long-a long-b)
 
 pub join-spec : {M : Type 1} → statement M
 join-spec =

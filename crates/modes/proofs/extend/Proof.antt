@@ -3,7 +3,7 @@
 use mathlib.Core.List.{◌++◌, append_assoc}
 use mathlib.Core.Path.{◌≡◌, ◌∙◌, sym, ap, ap₂}
 use native.Mathlib.Omega.{arith}
-use lib.ListN.{length, length_append}
+use lib.ListN.{length, length-append}
 use borrow.Author.Rules.{rules}
 use Rattle.modes.proofs.Compression.{and_a_block}
 use Rattle.modes.specs.Blocks.{zero_block}
@@ -27,7 +27,7 @@ unfolding compress
 returns c = let two = c.before.before.compress-two in
     let a = c.before.before.before.args in
     let last = constant_of PrngExtension in
-    let long : length (a.seed ++ a.entropy) ≡ 32 = length_append a.seed a.entropy ∙ omega arith in
+    let long : length (a.seed ++ a.entropy) ≡ 32 = length-append a.seed a.entropy ∙ omega arith in
     c.compress-block.ensures
     ∙ ap₂ compressed two.ensures c.before.constant_of.ensures
     ∙ sym (and_a_block 2 zero_block (a.seed ++ a.entropy) last (omega arith) (omega arith))

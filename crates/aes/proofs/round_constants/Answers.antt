@@ -6,12 +6,8 @@ use Rattle.laws.specs.All.{all}
 use Rattle.laws.specs.Xor.{◌xor◌}
 use Rattle.field.specs.Field.{reduce, xtime}
 use Rattle.aes.specs.Schedule.{power_of_x}
-use Rattle.aes.proofs.round_constants.Statement.{statement}
-use Rattle.aes.proofs.round_constants.Tie as tie
+use Rattle.aes.proofs.round_constants.Goals as goal
 
-returns : tie.Need-returns
+pub returns : goal.returns
 unfolding power_of_x xtime reduce ◌xor◌ all
 returns c = table_rule power_of_x _ 10 refl refl
-
-pub round-constants-spec : {M : Type 1} → statement M
-round-constants-spec = tie.close (tie.spec returns)
