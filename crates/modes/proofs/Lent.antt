@@ -1,5 +1,5 @@
 -- Lent buffers: what a test of their lengths tells, a whole one loaded or stored, and the two outcomes of a routine.
--- `refused` and `done` serve every routine of the modes that refuses.
+-- The last of these serve every routine of the modes that refuses.
 -- Assumes nothing.
 use mathlib.Core.Path.{◌≡◌, refl, ◌∙◌}
 use mathlib.Core.Bool.{Bool, true, false}
@@ -55,15 +55,22 @@ pub stored : (buffer block after : List ℕ) → after ≡ paste buffer 0 block 
 stored buffer block after e long long' = e ∙ pasted_over buffer block 16 long long'
 
 -- ---- the two outcomes
-pub refused : (right : Bool) (result before : List ℕ) → right ≡ false
-    → (general_error ≡ (outcome right result before).answer) × (before ≡ (outcome right result before).output)
+pub answer_refused : (right : Bool) (result before : List ℕ) → right ≡ false → general_error ≡ (outcome right result before).answer
 unfolding outcome
-refused right result before e = (rw e, rw e)
+answer_refused right result before e = rw e
 
-pub done : (right : Bool) (after result before : List ℕ) → right ≡ true → after ≡ result
-    → (no_error ≡ (outcome right result before).answer) × (after ≡ (outcome right result before).output)
+pub output_refused : (right : Bool) (result before : List ℕ) → right ≡ false → before ≡ (outcome right result before).output
 unfolding outcome
-done right after result before e h = (rw e, rw e h)
+output_refused right result before e = rw e
+
+pub answer_done : (right : Bool) (result before : List ℕ) → right ≡ true → no_error ≡ (outcome right result before).answer
+unfolding outcome
+answer_done right result before e = rw e
+
+pub output_done : (right : Bool) (after result before : List ℕ) → right ≡ true → after ≡ result
+    → after ≡ (outcome right result before).output
+unfolding outcome
+output_done right after result before e h = rw e h
 
 -- the output of one that is done
 pub succeeded : (right : Bool) (result before : List ℕ) → right ≡ true → (outcome right result before).output ≡ result

@@ -1,0 +1,24 @@
+-- `modes::add` meets its contract: the loop fills the sum byte by byte.
+-- Assumes nothing.
+use mathlib.Core.Path.{refl}
+use Prim.Native.Nat.{◌-◌}
+use borrow.Author.Rules.{rules}
+use Rattle.laws.proofs.Tabulate.{fill, filled}
+use Rattle.laws.specs.Tabulate.{tabulate}
+use Rattle.laws.specs.Xor.{◌xor◌}
+use Rattle.modes.specs.Blocks.{◌⊕◌}
+use Rattle.modes.proofs.add.Goals as goal
+
+pub loop-i-init : goal.loop-i-init
+unfolding tabulate
+loop-i-init c = search rules
+
+pub loop-i-preserved : goal.loop-i-preserved
+unfolding ◌xor◌
+loop-i-preserved c = let l = c.loop-i in
+    (search rules, search rules, fill _ l.sum l.i _ (search rules) refl l.invariant.2)
+
+pub returns : goal.returns
+unfolding ◌⊕◌
+returns c = let l = c.loop-i in
+    filled _ l.sum l.i 16 l.invariant.1 (search rules) l.invariant.2
