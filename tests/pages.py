@@ -85,10 +85,10 @@ def places(cell, what):
 def law_of(head):
     """the law that two outcomes which meet the promise are equal, by the shape of the promise"""
     for shape in ("outcome", "messages", "proof"):
-        if f"⌜ {shape} " in head:
-            return f"{shape}-settled"
-    if ".answer ⌝" in head and ".output ⌝" in head:
-        return "buffer-settled"
+        if f"{{ {shape} " in head:
+            return f"{shape}_settled"
+    if ".answer }" in head and ".output }" in head:
+        return "buffer_settled"
     return "settled"
 
 
@@ -146,7 +146,7 @@ def hold_promises(routines, is_writing):
         promised = re.findall(r"≡ (?:perform )?\(?([^\s()]+)", head)
         check(promised, f"{crate}::{name} promises no equation")
         for lent in re.findall(r"(\w+): &mut ", head):
-            check(f"({lent} .exit)" in head, f"{crate}::{name} promises nothing of what {lent} holds at exit")
+            check(f"{lent}.new" in head, f"{crate}::{name} promises nothing of what {lent} holds at exit")
         check(laws.get((crate, name)) == [law_of(head)], f"{crate}::{name} is settled by {law_of(head)}, and its row names another law")
         definition = definitions.get((crate, name), "")
         row = quoted(definition)[:1]
@@ -183,10 +183,10 @@ def listed(parts):
 
 
 def homes(text):
-    """where a file takes its names from: name -> module, that of a crate's own definitions under the name that others use"""
+    """where a file takes its names from: name -> module"""
     found = {}
     for module, names in re.findall(r"^(?:ghost )?use ([^{\s]+)\.\{(.*)\};?$", text, re.M):
-        found.update({name: module.replace("·specs.", ".") for name in names.split(", ")})
+        found.update({name: module for name in names.split(", ")})
     found.update({f"{short}.": module for module, short in re.findall(r"^use (\S+) as (\w+)$", text, re.M)})
     return found
 
@@ -196,14 +196,14 @@ def contract_of(definition, parameters, is_in_place, returned):
     leaves, with the parameters in their order"""
     lent = [name for name, kind in parameters.items() if kind == "&mut [u8]"]
     through = [name for name, kind in parameters.items() if kind == "&mut u8"]
-    given = [name if kind[0] != "&" else f"(now ({name} .entry))" for name, kind in parameters.items()
+    given = [name if kind[0] != "&" else f"{name}.old" if kind.startswith("&mut") else f"{name}.now" for name, kind in parameters.items()
              if name != "device" and name not in through]
-    value = {"Verdict": "(r .verdict)", "Status": "(r .status)"}.get(returned, "0")
+    value = {"Verdict": "result.verdict", "Status": "result.status"}.get(returned, "0")
     if through:
-        value = f"(now ({through[0]} .exit))"
-    answer, before = ("r (now (device .exit))", "(now (device .entry))") if is_in_place else ("(r .answer) (r .device)", "device")
+        value = f"{through[0]}.new"
+    answer, before = ("result device.new", "device.old") if is_in_place else ("result.answer result.device", "device")
     account = f"({' '.join([definition, *given])})" if given or " " in definition else definition
-    return f"outcome {answer} {value} {listed([f'now ({name} .exit)' for name in lent])} ≡ perform {account} {before}"
+    return f"outcome {answer} {value} {listed([f'{name}.new' for name in lent])} ≡ perform {account} {before}"
 
 
 def hold_calls(routines):
@@ -212,16 +212,15 @@ def hold_calls(routines):
     call, and promises an outcome too."""
     text = (CRATES / "demands/specs/Calls.antt").read_text()
     declared = {}
-    for name, given in re.findall(r"^  ([\w-]+) : (.*)Call$", text, re.M):
+    for name, given in re.findall(r"^  (\w+) : (.*)Call$", text, re.M):
         declared[name] = " ".join(re.findall(r"\(([^:]*) :", given)).split()
-    rows = re.findall(r"^account n \(?([\w-]+)([^)=]*)\)? = (\w+\.)?(\w+)(.*)$", text, re.M)
+    rows = re.findall(r"^account n \(?(\w+)([^)=]*)\)? = (\w+\.)?(\w+)(.*)$", text, re.M)
     check([row[0] for row in rows] == list(declared), "the table of accounts has other calls than the type, or another order")
     named = {"commands": set(), "load": set(), "boot": set(), "she": set()}
     for call, pattern, short, definition, given in rows:
         counted = given.split()[:1] == ["n"]
         check(pattern.split() == declared[call] == given.split()[counted:], f"the account of {call} has its arguments in another order")
-        name = call.replace("-", "_")
-        places = [(crate, routine) for crate, routine in routines if routine in (name, "she_" + name) and crate in named]
+        places = [(crate, routine) for crate, routine in routines if routine in (call, "she_" + call) and crate in named]
         check([crate == "she" for crate, _ in places] == [False, True], f"{call} is not one routine by value and one in place: {places}")
         for crate, routine in places:
             named[crate].add(routine)
@@ -232,22 +231,23 @@ def hold_calls(routines):
             taken = [n for n, kind in parameters.items() if n != "device" and kind != "&mut u8"]
             # the type calls the room for M1 to M5 b1 to b5
             check(taken == [re.sub(r"^b(?=\d)", "m", n) for n in declared[call]], f"{crate}::{routine} takes other things than {call}")
-            promise = re.findall(r"ensures \{ λ r\. ⌜ (.*) ⌝ \}", head)
+            promise = re.findall(r"ensures \{ (.*) \}", head)
             returned = re.search(r"\) -> (\w+)", head)[1]
-            wanted = contract_of(definition + " flagCount" * counted, parameters, crate == "she", returned)
+            wanted = contract_of(definition + " flag_count" * counted, parameters, crate == "she", returned)
             check(promise == [wanted], f"{crate}::{routine} promises {promise}, and by its call {wanted}")
     for crate, names in named.items():
-        promising = {name for (c, name), head in routines.items() if c == crate and "⌜ outcome " in head}
+        promising = {name for (c, name), head in routines.items() if c == crate and "{ outcome " in head}
         others = promising - names - {"make", "she_make"}
         check(not others, f"routines of {crate} promise an outcome and are no call: {others}")
     return len(rows)
 
 
 def hold_headers(routines):
-    """include/CRATE.h declares every routine that this crate exports to C, with as many parameters, and nothing else"""
+    """include/CRATE.h declares every routine that this crate exports to C, or the crate for C beside it, with as many parameters, and
+    nothing else"""
     found = 0
     for header in sorted((ROOT / "include").glob("*.h")):
-        crate = header.stem
+        crate = header.stem + "_c" * (CRATES / f"{header.stem}_c").is_dir()
         names = re.findall(r'^pub extern "C" fn (\w+)', (CRATES / crate / "src" / "lib.rt").read_text(), re.M)
         declared = dict(re.findall(r"^uint8_t (\w+)\(([^)]*)\);", header.read_text(), re.M))
         for name in declared.keys() ^ set(names):
@@ -263,7 +263,7 @@ def hold_headers(routines):
 
 def hold_lists():
     """README.md and ARCHITECTURE.md name every crate, and tests/README.md every script of the tests, and none that is not there"""
-    crates = set(re.findall(r"^(\w+):", (ROOT / "crates.txt").read_text(), re.M))
+    crates = set(re.findall(r"^(\w+)(?: staticlib)?:", (ROOT / "crates.txt").read_text(), re.M))
     for page in ("README.md", "docs/ARCHITECTURE.md"):
         named = {name for row in rows_under(ROOT / page, "crate") for name in quoted(row[0])}
         for crate in crates ^ named:

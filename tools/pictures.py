@@ -98,7 +98,8 @@ LIBRARY = {
     "laws": ("no code", ""), "field": ("GF(2^8), S-box", "FIPS 197, 4"), "aes": ("AES-128", "FIPS 197, 5"),
     "basics": ("answers, texts", ""), "modes": ("CBC, CMAC, KDF", "SP 800-38A, B"), "message": ("slots, M1 to M5", "001, 4.9"),
     "device": ("record and rules", ""), "garage": ("the book", ""), "load": ("LOAD_KEY, export", ""),
-    "commands": ("all others", ""), "boot": ("the boot check", ""), "she": ("what C calls", "include/she.h")}
+    "commands": ("all others", ""), "boot": ("the boot check", ""), "garage_c": ("for C", ""),
+    "she": ("what C calls", "include/she.h")}
 BESIDE = {"demands": "theorems", "rounds": "theorems", "published": "theorems", "text": "programs", "vectors": "programs",
           "cases": "programs", "bench": "programs"}
 # The stations of a load, a row a crate: the step of docs/ARCHITECTURE.md that begins there, `functions` of it, other words.
@@ -119,7 +120,7 @@ WAY = ("1C 0C 0she 0load 0device 0message 0device 0load 1load 1device 1message 1
 
 
 def layers():
-    uses = {name: used.split() for name, _, used in (line.partition(":") for line in read("crates.txt").splitlines())}
+    uses = {name.split()[0]: used.split() for name, _, used in (line.partition(":") for line in read("crates.txt").splitlines())}
     for name in sorted(set(uses) ^ set(LIBRARY | BESIDE)):
         fail(f"the crate {name} " + ("has no place among the layers" if name in uses else "of the layers is not in crates.txt"))
 
@@ -216,38 +217,34 @@ def definition(path, name):
 
 def checks_of(path, name):
     """The rows of a table of checks: the condition under which each finds fault, and the name of its answer."""
-    table = definition(path, name).replace("firstFault (", "")
+    table = definition(path, name).replace("first_fault (", "")
     rows = re.findall(r"\(((?:[^()]|\((?:[^()]|\([^()]*\))*\))*), (\w+)\)", table)
     return rows if len(rows) == table.count("∷") else fail(f"the checks of {name} in {path} can't be read")
 
 
-def in_capitals(name):
-    return re.sub("([A-Z])", r"_\1", name).upper()
-
-
 def widths():
     """Bytes of M1 to M5; of the first block, bits of the counter, the flags in their order, and bits that are left."""
-    source, lengths = "crates/message/specs/Flags.antt", definition("crates/load/specs/Load.antt", "fiveLengths")
-    flags = sorted((int(n), name) for name, n in re.findall(r"^(\w+) = (\d+)$", read(source), re.M) if name != "flagCount")
-    if [n for n, _ in flags] != [2 ** i for i in range(int(definition(source, "flagCount")))]:
+    source, lengths = "crates/message/specs/Flags.antt", definition("crates/load/specs/Load.antt", "five_lengths")
+    flags = sorted((int(n), name) for name, n in re.findall(r"^(\w+) = (\d+)$", read(source), re.M) if name != "flag_count")
+    if [n for n, _ in flags] != [2 ** i for i in range(int(definition(source, "flag_count")))]:
         fail(f"the flags of {source} are not the bits of a number")
-    counter = int(definition("crates/message/specs/FirstBlock.antt", "maxCounter")).bit_length()
+    counter = int(definition("crates/message/specs/FirstBlock.antt", "max_counter")).bit_length()
     sizes = [int(n) for n in re.findall(r"\(m\d, (\d+)\)", lengths)]
-    return sizes, counter, [in_capitals(name) for _, name in reversed(flags)], 128 - counter - len(flags)
+    return sizes, counter, [name.upper() for _, name in reversed(flags)], 128 - counter - len(flags)
 
 
 # The definitions of the messages as they are drawn.
-DRAWN = {"slotByte": "16 * target + authority", "m1": "uid ++ (slotByte target authority ∷ [])",
-         "m2": "cbcEncrypt (cipher (encKey authKey)) zeroBlock (firstBlock n counter flags ++ key)",
-         "m3": "cmac (cipher (macKey authKey)) 384 (m1 ++ m2)", "m5": "cmac (cipher (macKey key)) 256 m4",
-         "m4": "m1 uid target authority ++ cipher (encKey key) (proofBlock counter)",
-         "encKey": "kdf key (constantOf KeyUpdateEnc)", "macKey": "kdf key (constantOf KeyUpdateMac)",
-         "firstBlock": "inBytes 16 (counter * 2 ^ 100 + flags * 2 ^ (100 - n))", "proofBlock": "firstBlock 1 counter 1"}
+DRAWN = {"slot_byte": "16 * target + authority", "m1": "uid ++ (slot_byte target authority ∷ [])",
+         "m2": "cbc_encrypt (cipher (enc_key auth_key)) zero_block (first_block n counter flags ++ key)",
+         "m3": "cmac (cipher (mac_key auth_key)) 384 (m1 ++ m2)", "m5": "cmac (cipher (mac_key key)) 256 m4",
+         "m4": "m1 uid target authority ++ cipher (enc_key key) (proof_block counter)",
+         "enc_key": "kdf key (constant_of KeyUpdateEnc)", "mac_key": "kdf key (constant_of KeyUpdateMac)",
+         "first_block": "in_bytes 16 (counter * 2 ^ 100 + flags * 2 ^ (100 - n))", "proof_block": "first_block 1 counter 1"}
 
 
 def messages():
     for name, text in DRAWN.items():
-        if definition(f"crates/message/specs/{'FirstBlock' if 'Block' in name else 'Messages'}.antt", name) != text:
+        if definition(f"crates/message/specs/{'FirstBlock' if 'block' in name else 'Messages'}.antt", name) != text:
             fail(f"the messages are drawn from another definition of {name}")
     sizes, counter, flags, filler = widths()
     p = Picture(664, "The key messages M1 to M5, and their keys",
@@ -329,30 +326,30 @@ CHECKS = {
     "not lengths": ("All five buffers have their length", "{lengths} bytes"),
     "not (allowed target authority)":
         ("The pair is allowed", "target 1 by 1; 2 and 3 by 1 or 2; 4 to 13 by 1 or itself; 14 by 4 to 13 or 0"),
-    "hasFlag (flagsAt d target) write": ("The target's WRITE is 0", "a slot with WRITE set takes no further key"),
-    "isEmpty d authority && not (eqb authority target)":
+    "has_flag (flags_at d target) write": ("The target's WRITE is 0", "a slot with WRITE set takes no further key"),
+    "is_empty d authority && not (eqb authority target)":
         ("The authority is not empty, or is the target itself", "an empty slot that loads itself counts as 16 bytes of FF"),
     "locked d authority": ("The authority is not locked", "locked: its DEBUGGER is 1 and a debugger is attached"),
-    "not (new .genuine)": ("M3 is the MAC of M1 and M2", "all 16 bytes of it, under K2"),
-    "not (isForUs d target uid)":
+    "not new.genuine": ("M3 is the MAC of M1 and M2", "all 16 bytes of it, under K2"),
+    "not (is_for_us d target uid)":
         ("The message is for this device", "its own UID; or all zeros, and the target's WILDCARD is 0 or it is slot 14"),
-    "not (new .zerofill)": ("The {filler} bits after the flags are zero", "in the first block of what M2 holds"),
-    "not (counterRises d target (new .counter))":
+    "not new.zerofill": ("The {filler} bits after the flags are zero", "in the first block of what M2 holds"),
+    "not (counter_rises d target new.counter)":
         ("The counter is greater than the stored one", "target 14 keeps no counter and takes any")}
 
 
 def checks():
     load, account = "crates/load/specs/Load.antt", "crates/device/specs/Account.antt"
-    if not re.match("pairChecks .*openedChecks", definition(load, "loadChecks")) or "refusal = unchanged;" not in read(load):
+    if not re.match("pair_checks .*opened_checks", definition(load, "load_checks")) or "refusal = unchanged;" not in read(load):
         fail("the order of a load's checks, or what a refusal leaves, is not as it is drawn")
-    groups = [checks_of(account, "answerBy"), checks_of(load, "pairChecks"), checks_of(load, "openedChecks")]
+    groups = [checks_of(account, "answer_by"), checks_of(load, "pair_checks"), checks_of(load, "opened_checks")]
     found = sum(groups, [])
     for condition in sorted({condition for condition, _ in found} ^ set(CHECKS)):
         fail(f"a check of LOAD_KEY without words, or words without a check: '{condition}'")
     sizes, _, _, filler = widths()
     lengths = ", ".join(f"M{i + 1} {n}" for i, n in enumerate(sizes))
     words = {check: [text.format(filler=filler, lengths=lengths) for text in texts] for check, texts in CHECKS.items()}
-    numbers = {name: definition("crates/basics/specs/Answers.antt", name) for _, name in found + [("", "noError")]}
+    numbers = {name: definition("crates/basics/specs/Answers.antt", name) for _, name in found + [("", "no_error")]}
     p = Picture(712, "The checks of LOAD_KEY, in their order",
                 "Checks one after another, each with its answer where it fails: "
                 + "; ".join(f"{words[condition][0]}, else {numbers[name]}" for condition, name in found)
@@ -365,7 +362,7 @@ def checks():
             p.path([(left + wide, y + 20), (right - 2, y + 20)], "way" if kind == "tint" else "dash")
             p.box(right, y + 5, 194, 30, kind)
             p.text(right + 30, y + 25, numbers[answer], "bold", "end")
-            p.text(right + 42, y + 24, in_capitals(answer), "mono", room=150)
+            p.text(right + 42, y + 24, answer.upper(), "mono", room=150)
 
     p.text(right, 46, "else the answer is", "small muted")
     end = y + 52 * (len(found) + 1) + 20
@@ -385,7 +382,7 @@ def checks():
             step(*words[condition], answer)
             y += 52
     step("The target's slot is stored, M4 and M5 are written", "key, counter, flags as it keeps them; the device's own UID in M4",
-         "noError", "tint")
+         "no_error", "tint")
     p.text(left, y + 66, "A refusal changes nothing: the record, and the room for M4 and M5, stay as they were.", "bold")
     return p
 
