@@ -1,6 +1,6 @@
 -- What must succeed does: messages that are built under the authority's key load where the rules hold.
 -- Assumes nothing.
-use mathlib.Core.Path.{◌≡◌, refl, sym, ap, ap₂, ◌∙◌, subst, subst⁻¹}
+use mathlib.Core.Path.{◌≡◌, refl, sym, ap, ap₂, ◌∙◌, subst⁻¹}
 use mathlib.Core.Bool.{Bool, true, false, cond, ◌&&◌, ◌||◌, and-false, false≢true}
 use mathlib.Core.List.{List, [], ◌∷◌}
 use Prim.Native.Nat.{ℕ, ◌≤◌, ◌<◌}
@@ -17,7 +17,7 @@ use Rattle.basics.specs.Answers.{no_error}
 use Rattle.basics.specs.Marks.{off}
 use Rattle.message.specs.Building.{uid_of, target_of, authority_of, Carried}
 use Rattle.message.specs.Flags.{flag_count, write, boot, debugger}
-use Rattle.message.specs.Messages.{m1, m2, m3, m4, m5, Sent, build}
+use Rattle.message.specs.Messages.{m1, m4, m5, Sent, build}
 use Rattle.message.specs.Slots.{counter_kept}
 use Rattle.message.specs.Writer.{Messages, full_form, proof_form}
 use Rattle.message.proofs.Building.{m1_long, uid_of_m1, target_of_m1, authority_of_m1, m2_text, m3_block}

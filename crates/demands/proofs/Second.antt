@@ -28,7 +28,7 @@ use Rattle.message.specs.Slots.{has_role}
 use Rattle.message.specs.declared.Role.{Role}
 use Rattle.message.specs.declared.Role.TheVariants.{Cipher, GenerateMac, VerifyMac}
 use Rattle.device.specs.Account.{answer_by, success}
-use Rattle.device.specs.Made.{made, Sound}
+use Rattle.device.specs.Made.{Sound}
 use Rattle.device.specs.Outcome.{Outcome, done}
 use Rattle.device.specs.Record.{key_at}
 use Rattle.device.specs.Rules.{usage_fits}

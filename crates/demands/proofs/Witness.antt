@@ -1,7 +1,7 @@
 -- The theorems are not vacuous: a made device, loads that succeed, and loads that are refused.
 -- Assumes nothing.
 use mathlib.Core.Path.{◌≡◌, refl, ap, ◌∙◌}
-use mathlib.Core.Bool.{true, false, false≢true}
+use mathlib.Core.Bool.{true, false≢true}
 use mathlib.Core.List.{List, [], ◌∷◌}
 use Prim.Native.Nat.{ℕ}
 use native.Mathlib.Omega.{arith}
@@ -18,7 +18,7 @@ use Rattle.basics.specs.Bytes.{block_at, put_block}
 use Rattle.basics.specs.Marks.{on}
 use Rattle.modes.specs.Blocks.{Text}
 use Rattle.message.specs.Building.{Carried}
-use Rattle.message.specs.Messages.{m1, m2, m3}
+use Rattle.message.specs.Messages.{m1}
 use Rattle.message.proofs.Building.{m2_text, m3_block, handed_back}
 use Rattle.message.specs.Flags.{flag_count, boot}
 use Rattle.message.specs.Slots.{has_role, flags_kept, counter_kept, allowed}

@@ -2,13 +2,11 @@
 -- Assumes nothing.
 use mathlib.Core.Path.{◌≡◌, refl, sym}
 use mathlib.Core.Bool.{Bool, true, false, not, cond, ◌&&◌, ◌||◌, false≢true}
-use mathlib.Core.List.{List}
 use Prim.Native.Nat.{ℕ, ◌≤◌}
 use native.Mathlib.Omega.{arith}
 use borrow.Author.Tests.{leb-true, leb-false, le-leb, eqb-true, eq-eqb, not-true, not-false}
 use lib.Dec.{eqb, leb}
 use lib.ListN.{get_or, get_or-eq_default}
-use Rattle.laws.specs.All.{all}
 use Rattle.laws.specs.Same.{same}
 use Rattle.laws.proofs.Same.{same_equal, equal_same}
 use Rattle.laws.proofs.Test.{both, all_each, each_all}

@@ -524,13 +524,7 @@ fn open_anew(_before: Book, uid: &[u8], keys: &[u8], held: &[u8], counters: &[u3
     open(uid, keys, held, counters)
 }
 
-pub fn garage_open(
-    book: &mut Book,
-    uid: &[u8],
-    keys: &[u8],
-    held: &[u8],
-    counters: &[u32],
-) -> u8
+pub fn garage_open(book: &mut Book, uid: &[u8], keys: &[u8], held: &[u8], counters: &[u32]) -> u8
     ensures { outcome result book.new 0 [] ≡ opening uid.now keys.now held.now counters.now }
 {
     let before = *book;
@@ -557,13 +551,7 @@ pub fn garage_write(
     reply.answer
 }
 
-pub fn garage_judge(
-    book: &mut Book,
-    target: u32,
-    m4: &[u8],
-    m5: &[u8],
-    verdict: &mut u8,
-) -> u8
+pub fn garage_judge(book: &mut Book, target: u32, m4: &[u8], m5: &[u8], verdict: &mut u8) -> u8
     ensures { outcome result book.new verdict.new [] ≡ judging book.old target m4.now m5.now }
 {
     let before = *book;

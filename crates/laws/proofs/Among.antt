@@ -1,7 +1,7 @@
 -- The test whether a number stands in a list says so exactly where it does.
 -- Assumes nothing.
 use mathlib.Core.Path.{◌≡◌, ap, ◌∙◌}
-use mathlib.Core.Bool.{Bool, true, false, ◌||◌, false≢true, or-true}
+use mathlib.Core.Bool.{Bool, true, ◌||◌, false≢true, or-true}
 use mathlib.Core.List.{List, [], ◌∷◌}
 use mathlib.Core.Logic.{inl, inr, ⊎_elim}
 use Prim.Native.Nat.{ℕ}

@@ -39,7 +39,7 @@ use Rattle.device.specs.declared.Slot.{Slot}
 use Rattle.device.proofs.Made.{facts, empty_counter}
 use Rattle.commands.specs.Commands as commands
 use Rattle.load.proofs.Effects.{loaded_sound}
-use Rattle.demands.specs.Calls.{Call, Machine, reset, load_key, account}
+use Rattle.demands.specs.Calls.{Call, Machine, load_key, account}
 use Rattle.demands.specs.Demand1.{Demand1}
 use Rattle.demands.specs.Demand3.{Learns, Demand3}
 use Rattle.demands.specs.Runs.{is_load_of, is_fill_of, InBytes}

@@ -1,7 +1,6 @@
 -- `aes::add_round_key` meets its contract: the loop fills the new state with the sums of the old one and the round's key.
 -- Assumes nothing.
 use mathlib.Core.Path.{refl}
-use Prim.Native.Nat.{◌-◌}
 use borrow.Author.Rules.{rules}
 use Rattle.laws.proofs.Tabulate.{fill, filled}
 use Rattle.laws.specs.Tabulate.{tabulate}

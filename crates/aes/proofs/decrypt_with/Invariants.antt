@@ -1,6 +1,6 @@
 use mathlib.Core.Path.{◌≡◌}
 use Prim.Native.Nat.{◌≤◌}
-use Rattle.aes.specs.Cipher.{inv_round, inv_rounds}
+use Rattle.aes.specs.Cipher.{inv_rounds}
 use Rattle.aes.proofs.decrypt_with.Given as goal
 
 abbrev pub invariant-loop-r : goal.invariant-loop-r

@@ -1,6 +1,6 @@
 use mathlib.Core.Path.{◌≡◌}
 use Prim.Native.Nat.{◌-◌, ◌≤◌}
-use Rattle.aes.specs.Cipher.{round, rounds}
+use Rattle.aes.specs.Cipher.{rounds}
 use Rattle.aes.proofs.encrypt_with.Given as goal
 
 abbrev pub invariant-loop-r : goal.invariant-loop-r

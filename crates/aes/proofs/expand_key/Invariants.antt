@@ -1,7 +1,6 @@
 use mathlib.Core.Path.{◌≡◌}
 use Prim.Native.Nat.{◌-◌, ◌*◌, ◌≤◌}
 use lib.ListN.{length, take}
-use Rattle.aes.proofs.Schedule.{more}
 use Rattle.aes.specs.Schedule.{word, more_words}
 use Rattle.aes.proofs.expand_key.Given as goal
 

@@ -1,14 +1,13 @@
 -- `aes::move_rows` meets its contract: the loop fills the new state with the bytes that its places come from.
 -- Assumes nothing.
 use mathlib.Core.Path.{refl}
-use Prim.Native.Nat.{◌-◌, ◌≤◌}
+use Prim.Native.Nat.{◌≤◌}
 use Prim.Native.Nat.{ℕ, ◌*◌, ◌%◌, ◌<◌}
 use native.Mathlib.Nat.{mul-le-mul}
 use native.Mathlib.Omega.{arith}
 use borrow.Author.Rules.{rules}
 use Rattle.laws.proofs.Tabulate.{fill, filled}
 use Rattle.laws.specs.Tabulate.{tabulate}
-use Rattle.aes.specs.State.{byte}
 use Rattle.aes.specs.Steps.{move_rows}
 use Rattle.aes.proofs.move_rows.Goals as goal
 

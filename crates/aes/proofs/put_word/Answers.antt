@@ -1,7 +1,7 @@
 -- `aes::put_word` meets its contract: after j turns the first j bytes of the word are pasted.
 -- Assumes nothing.
-use Prim.Native.Nat.{◌-◌, ◌*◌}
-use lib.Seq.{paste, paste-zero}
+use Prim.Native.Nat.{◌*◌}
+use lib.Seq.{paste-zero}
 use borrow.Author.Rules.{rules}
 use Rattle.laws.proofs.Paste.{paste_more, pasted}
 use Rattle.aes.proofs.put_word.Goals as goal

@@ -1,7 +1,7 @@
 -- `aes::sub_bytes` meets its contract: the loop fills the new state with the table's entries for the bytes of the old one.
 -- Assumes nothing.
 use mathlib.Core.Path.{◌∙◌}
-use Prim.Native.Nat.{ℕ, ◌-◌}
+use Prim.Native.Nat.{ℕ}
 use borrow.Author.Rules.{rules}
 use Rattle.laws.proofs.Tabulate.{fill, filled}
 use Rattle.laws.specs.Tabulate.{tabulate}

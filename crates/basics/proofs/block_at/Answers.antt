@@ -1,7 +1,5 @@
 -- `basics::block_at` meets its contract: the loop fills the block byte by byte.
 -- Assumes nothing.
-use Prim.Native.Nat.{◌-◌}
-use Rattle.aes.specs.State.{byte}
 use Rattle.laws.proofs.Tabulate.{fill, filled}
 use Rattle.laws.specs.Tabulate.{tabulate}
 use borrow.Author.Rules.{rules}

@@ -1,7 +1,5 @@
 -- `basics::is_same` meets its contract: after i turns the first i bytes are compared.
 -- Assumes nothing.
-use Prim.Native.Nat.{◌-◌}
-use lib.ListN.{length}
 use borrow.Author.Rules.{rules}
 use Rattle.laws.proofs.Same.{same_length, compared_none, compared_more, compared_all}
 use Rattle.basics.proofs.is_same.Goals as goal

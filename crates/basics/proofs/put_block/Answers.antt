@@ -1,12 +1,12 @@
 -- `basics::put_block` meets its contract: the loop pastes the block into its place.
 -- Assumes nothing.
-use Prim.Native.Nat.{◌-◌, ◌*◌, ◌+◌}
+use Prim.Native.Nat.{◌*◌, ◌+◌}
 use Rattle.basics.specs.Bytes.{put_block}
 use Rattle.laws.proofs.Paste.{paste_more, pasted}
 use borrow.Author.Rules.{rules}
 use borrow.Author.Tests.{lt-leb, le-leb}
 use lib.ListN.{length, length-set}
-use lib.Seq.{paste, paste-zero}
+use lib.Seq.{paste-zero}
 use mathlib.Core.Path.{◌≡◌, ◌∙◌}
 use native.Mathlib.Omega.{arith}
 use Rattle.basics.proofs.put_block.Goals as goal

@@ -1,8 +1,8 @@
 -- `commands::copy` meets its contract: the loop copies from the front.
 -- Assumes nothing.
-use Prim.Native.Nat.{◌-◌, ℕ}
+use Prim.Native.Nat.{ℕ}
 use borrow.Author.Rules.{rules}
-use lib.ListN.{length, length-set, take, get_or}
+use lib.ListN.{length-set, get_or}
 use lib.Seq.{take-suc, take-suc-set, take_all}
 use mathlib.Core.List.{List, [], ◌∷◌, ◌++◌}
 use mathlib.Core.Path.{refl, sym, ap, ◌∙◌}

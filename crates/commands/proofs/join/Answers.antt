@@ -1,7 +1,6 @@
 -- `commands::join` meets its contract: the loop fills the array byte by byte.
 -- Assumes nothing.
-use Prim.Native.Nat.{◌+◌, ◌-◌}
-use Rattle.aes.specs.State.{byte}
+use Prim.Native.Nat.{◌+◌}
 use Rattle.laws.proofs.Tabulate.{fill, filled, tabulate_own}
 use Rattle.laws.specs.Tabulate.{tabulate}
 use borrow.Author.Rules.{rules}

@@ -1,4 +1,4 @@
-use Prim.Native.Nat.{◌+◌, ◌-◌, ◌≤◌}
+use Prim.Native.Nat.{◌-◌, ◌≤◌}
 use Rattle.aes.specs.State.{byte}
 use Rattle.laws.specs.Tabulate.{tabulate}
 use lib.ListN.{length, take}

@@ -5,7 +5,7 @@ use Rattle.basics.proofs.Bytes.{block_whole, uid_whole}
 use Rattle.basics.proofs.Faults.{no_fault}
 use Rattle.commands.specs.Commands.{make_answer, make}
 use Rattle.device.proofs.Account.{where_refused, where_done}
-use Rattle.device.specs.Made.{blank, fresh}
+use Rattle.device.specs.Made.{blank}
 use Rattle.device.specs.Outcome.{outcome, refused}
 use Rattle.device.specs.declared.Device.{Device}
 use Rattle.laws.proofs.Lengths.{Right, each_right}

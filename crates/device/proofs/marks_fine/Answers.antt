@@ -1,11 +1,9 @@
 -- `device::marks_fine` meets its contract: the loop tests mark by mark.
 -- Assumes nothing.
-use Prim.Native.Nat.{◌-◌}
 use Rattle.basics.specs.Marks.{is_mark}
 use Rattle.device.specs.Made.{marks_fine}
 use Rattle.device.specs.Record.{mark_count, mark_at}
 use Rattle.laws.proofs.Test.{all_none, all_more, all_made}
-use Rattle.laws.specs.All.{all}
 use borrow.Author.Rules.{rules}
 use mathlib.Core.Path.{refl}
 use Rattle.device.proofs.marks_fine.Goals as goal

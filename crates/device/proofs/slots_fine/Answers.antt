@@ -1,11 +1,10 @@
 -- `device::slots_fine` meets its contract: the loop tests slot by slot.
 -- Assumes nothing.
-use Prim.Native.Nat.{◌-◌, ℕ}
+use Prim.Native.Nat.{ℕ}
 use Rattle.aes.specs.State.{byte}
 use Rattle.device.specs.Made.{slot_fine, slots_fine}
 use Rattle.device.specs.Record.{counter_at, flags_at, empty_at, slot_at}
 use Rattle.laws.proofs.Test.{all_none, all_more, all_made}
-use Rattle.laws.specs.All.{all}
 use borrow.Author.Rules.{rules}
 use mathlib.Core.Bool.{Bool}
 use mathlib.Core.List.{List}
@@ -27,7 +26,9 @@ pub returns : goal.returns
 unfolding slots_fine
 returns c = let l = c.loop-slot in
     let d = c.args.device in
-    let small : (k : ℕ) → Fits w8 (byte d.keys k) = λ k. search rules in record { value = all_made _ l.slot 15 l.fine (search rules) l.invariant.1; shaped = record {
+    let small : (k : ℕ) → Fits w8 (byte d.keys k) = λ k. search rules in record {
+      value = all_made _ l.slot 15 l.fine (search rules) l.invariant.1;
+      shaped = record {
         all_keys = search rules;
         key_bytes = λ k. (small k).fits;
         all_counters = search rules;
@@ -35,4 +36,5 @@ returns c = let l = c.loop-slot in
         all_empty = search rules;
         uid_long = search rules;
         all_marks = search rules;
-      } }
+      };
+    }

@@ -1,8 +1,6 @@
 -- `garage::are_counters` meets its contract: the loop tests one after the other.
 -- Assumes nothing.
-use Prim.Native.Nat.{◌-◌}
 use Rattle.laws.proofs.Test.{all_none, all_more, all_made}
-use Rattle.laws.specs.All.{all}
 use borrow.Author.Rules.{rules}
 use mathlib.Core.Path.{refl}
 use Rattle.garage.proofs.are_counters.Goals as goal

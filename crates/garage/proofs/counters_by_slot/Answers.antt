@@ -1,10 +1,9 @@
 -- `garage::counters_by_slot` meets its contract.
 -- Assumes nothing.
-use Prim.Native.Nat.{◌-◌}
 use Rattle.laws.proofs.Paste.{paste_more, pasted}
 use borrow.Author.Rules.{rules}
-use lib.ListN.{length, replicate, length-set}
-use lib.Seq.{paste, paste-zero}
+use lib.ListN.{replicate, length-set}
+use lib.Seq.{paste-zero}
 use mathlib.Core.Path.{◌∙◌}
 use Rattle.garage.proofs.counters_by_slot.Goals as goal
 

@@ -1,6 +1,5 @@
 -- `garage::held_keys` meets its contract: the loop fills the store byte by byte.
 -- Assumes nothing.
-use Prim.Native.Nat.{◌-◌}
 use Rattle.laws.proofs.Tabulate.{fill, filled}
 use Rattle.laws.specs.Tabulate.{tabulate}
 use borrow.Author.Rules.{rules}

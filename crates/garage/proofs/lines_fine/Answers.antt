@@ -1,8 +1,6 @@
 -- `garage::lines_fine` meets its contract.
 -- Assumes nothing.
-use Prim.Native.Nat.{◌-◌}
 use Rattle.laws.proofs.Test.{all_none, all_more, all_made}
-use Rattle.laws.specs.All.{all}
 use borrow.Author.Rules.{rules}
 use mathlib.Core.Path.{ap, ◌∙◌}
 use Rattle.garage.specs.Book.{line_at}
@@ -19,7 +17,9 @@ loop-slot-preserved c = let l = c.loop-slot in
 
 pub returns : goal.returns
 unfolding lines_fine
-returns c = let l = c.loop-slot in record { value = all_made _ l.slot 15 l.fine (search rules) l.invariant.1; shaped = record {
+returns c = let l = c.loop-slot in record {
+  value = all_made _ l.slot 15 l.fine (search rules) l.invariant.1;
+  shaped = record {
     all_keys = search rules;
     all_newkeys = search rules;
     all_counters = search rules;
@@ -28,4 +28,5 @@ returns c = let l = c.loop-slot in record { value = all_made _ l.slot 15 l.fine 
     all_waits = search rules;
     all_authorities = search rules;
     uid_long = search rules;
-  } }
+  };
+}

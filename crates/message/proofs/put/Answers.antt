@@ -1,9 +1,8 @@
 -- `message::put` meets its contract: after i turns the first i bytes of the part are pasted.
 -- Assumes nothing.
 use mathlib.Core.Path.{refl}
-use Prim.Native.Nat.{◌-◌}
 use lib.ListN.{length}
-use lib.Seq.{paste, paste-zero}
+use lib.Seq.{paste-zero}
 use borrow.Author.Rules.{rules}
 use Rattle.laws.proofs.Paste.{paste_more, pasted}
 use Rattle.message.proofs.put.Goals as goal

@@ -7,7 +7,6 @@ use Prim.Native.Nat.{ℕ, ◌≤◌, ◌<◌}
 use native.Mathlib.Omega.{arith}
 use lib.ListN.{length}
 use lib.Seq.{take_all}
-use borrow.Author.Rules.{rules}
 use Rattle.laws.proofs.Lengths.{Right, each_right}
 use Rattle.laws.specs.Lengths.{right_lengths}
 use Rattle.message.proofs.Slots.{pair_slots}

@@ -1,7 +1,6 @@
 -- `modes::add` meets its contract: the loop fills the sum byte by byte.
 -- Assumes nothing.
 use mathlib.Core.Path.{refl}
-use Prim.Native.Nat.{◌-◌}
 use borrow.Author.Rules.{rules}
 use Rattle.laws.proofs.Tabulate.{fill, filled}
 use Rattle.laws.specs.Tabulate.{tabulate}

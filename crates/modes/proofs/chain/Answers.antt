@@ -1,7 +1,6 @@
 -- `modes::chain` meets its contract: chaining the blocks from `at` on gives what all of them give.
 -- Assumes nothing.
 use mathlib.Core.Path.{refl, ap, ◌∙◌}
-use Prim.Native.Nat.{◌-◌}
 use borrow.Author.Rules.{rules}
 use Rattle.aes.specs.Cipher.{cipher_with}
 use Rattle.modes.proofs.Runs.{carry_turn, carry_end}

@@ -35,5 +35,8 @@ returns c = let right : let a = c.args in cmac_lengths (length a.key.now) a.bits
     let f = cmac_facts _ _ _ _ right in
     let key = loaded a.key.now _ c.load.ensures f.0 in
     let ciph = ciphers a.key.now _ (c.expand_key-w.ensures ∙ ap key_expansion key) in
-    record { value = answer_done _ _ _ right; output_after = output_done _ _ _ _ right (stored a.output.now _ _ c.store.ensures f.3 (omega arith) ∙ c.mac-result.ensures
-    ∙ ap (λ (p : List ℕ → List ℕ). cmac p a.bits a.message.now) ciph) }
+    record {
+      value = answer_done _ _ _ right;
+      output_after = output_done _ _ _ _ right (stored a.output.now _ _ c.store.ensures f.3 (omega arith) ∙ c.mac-result.ensures
+          ∙ ap (λ (p : List ℕ → List ℕ). cmac p a.bits a.message.now) ciph);
+    }

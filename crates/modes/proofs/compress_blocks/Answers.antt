@@ -1,7 +1,6 @@
 -- `modes::compress_blocks` meets its contract: compressing the blocks from `at` on gives what all of them give.
 -- Assumes nothing.
 use mathlib.Core.Path.{refl}
-use Prim.Native.Nat.{◌-◌}
 use borrow.Author.Rules.{rules}
 use Rattle.modes.proofs.Runs.{carry_turn, carry_end}
 use Rattle.modes.specs.Compression.{compressed, compress_from}

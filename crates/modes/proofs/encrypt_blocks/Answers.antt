@@ -1,7 +1,6 @@
 -- `modes::encrypt_blocks` meets its contract: what is written before `at`, and what the blocks from there give, is the ciphertext.
 -- Assumes nothing.
 use mathlib.Core.Path.{◌≡◌, refl, ap, ◌∙◌}
-use Prim.Native.Nat.{◌-◌}
 use native.Mathlib.Omega.{arith}
 use borrow.Author.Rules.{rules}
 use Rattle.aes.specs.Cipher.{cipher_with}

@@ -1,7 +1,6 @@
 -- `modes::load` meets its contract: the loop fills the block with the part of the text.
 -- Assumes nothing.
 use mathlib.Core.Path.{refl, ◌∙◌}
-use Prim.Native.Nat.{◌-◌}
 use borrow.Author.Rules.{rules}
 use Rattle.laws.proofs.Tabulate.{fill, filled, tabulate_part}
 use Rattle.laws.specs.Tabulate.{tabulate}

@@ -1,6 +1,5 @@
 -- `modes::pad` meets its contract: the loop fills the front of the zeros with the whole bytes, and the cut one follows.
 -- Assumes nothing.
-use Prim.Native.Nat.{◌-◌}
 use borrow.Author.Rules.{rules}
 use Rattle.laws.proofs.Zeros.{fill_next}
 use Rattle.modes.proofs.Padding.{pad_steps}

@@ -1,6 +1,6 @@
 -- `modes::shift_left` meets its contract: the loop fills all bytes but the last, which takes no bit from a next one.
 -- Assumes nothing.
-use Prim.Native.Nat.{ℕ, ◌+◌, ◌-◌}
+use Prim.Native.Nat.{ℕ, ◌+◌}
 use borrow.Author.Rules.{rules}
 use mir.Syntax.{w8}
 use mir.Val.{Fits}

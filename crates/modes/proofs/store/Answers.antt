@@ -1,8 +1,7 @@
 -- `modes::store` meets its contract: after i turns the first i bytes of the block are pasted.
 -- Assumes nothing.
 use mathlib.Core.Path.{refl}
-use Prim.Native.Nat.{◌-◌}
-use lib.Seq.{paste, paste-zero}
+use lib.Seq.{paste-zero}
 use borrow.Author.Rules.{rules}
 use Rattle.laws.proofs.Paste.{paste_more, pasted}
 use Rattle.modes.proofs.store.Goals as goal
