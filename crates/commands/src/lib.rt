@@ -16,7 +16,7 @@ use device::{DEBUGGER_MARK, Device, PLAIN_MARK, RNG_MARK, Reply, Slot};
 use message::Role;
 use modes::Constant;
 
-#[derive(Drop)]
+#[derive(Clone, Copy)]
 pub struct Verdict {
     pub answer: u8,
     pub device: Device,
@@ -24,7 +24,7 @@ pub struct Verdict {
     pub verdict: u8,
 }
 
-#[derive(Drop)]
+#[derive(Clone, Copy)]
 pub struct Status {
     pub answer: u8,
     pub device: Device,

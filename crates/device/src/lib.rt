@@ -49,7 +49,7 @@ const MARKS: usize = 11;
 // ---- the record
 
 #[repr(C)]
-#[derive(Drop)]
+#[derive(Clone, Copy)]
 pub struct Device {
     // Sixteen bytes a slot.
     pub keys: [u8; 240],
@@ -67,7 +67,7 @@ pub struct Device {
 }
 
 // What one slot holds.
-#[derive(Drop)]
+#[derive(Clone, Copy)]
 pub struct Slot {
     pub key: [u8; 16],
     pub counter: u32,
@@ -76,7 +76,7 @@ pub struct Slot {
 }
 
 // What a command hands back: the answer's number, and the device.
-#[derive(Drop)]
+#[derive(Clone, Copy)]
 pub struct Reply {
     pub answer: u8,
     pub device: Device,

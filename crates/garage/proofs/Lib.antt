@@ -1,5 +1,4 @@
 pub mod Called
-pub mod InPlace
 pub mod Lines
 pub mod NewBook
 pub mod Opened

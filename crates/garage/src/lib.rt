@@ -31,7 +31,7 @@ const NO: u8 = 0;
 // ---- the book
 
 #[repr(C)]
-#[derive(Drop)]
+#[derive(Clone, Copy)]
 pub struct Book {
     // Sixteen bytes a slot: the key that is held, and the one that a waiting message brings.
     pub keys: [u8; 240],
@@ -50,7 +50,7 @@ pub struct Book {
 }
 
 // What the book says of one slot. (Public, as what is said of book and board together names it.)
-#[derive(Drop)]
+#[derive(Clone, Copy)]
 pub struct Line {
     pub key: [u8; 16],
     pub held: u8,
@@ -62,7 +62,7 @@ pub struct Line {
 }
 
 // What a call hands back: the answer's number, and the book.
-#[derive(Drop)]
+#[derive(Clone, Copy)]
 pub struct Reply {
     pub answer: u8,
     pub book: Book,

@@ -42,7 +42,7 @@ const SHORT_FLAGS: u8 = 0;
 
 // ---- slots
 
-#[derive(Drop)]
+#[derive(Clone, Copy)]
 pub enum Kind {
     SecretKey,
     MasterEcuKey,
@@ -68,7 +68,7 @@ pub fn kind_of(slot: u8) -> Kind
 }
 
 // What a command uses a key for: ECB and CBC, GENERATE_MAC, VERIFY_MAC.
-#[derive(Drop)]
+#[derive(Clone, Copy)]
 pub enum Role {
     Cipher,
     GenerateMac,
@@ -416,7 +416,7 @@ pub fn write_proof(
 
 // What M1 to M3 hold: whether M3 is the MAC of M1 and M2, the counter, the flags, whether the filler after them is all zeros, and
 // the new key. Where `genuine` is false, M3 or a length is wrong, and the rest is zero and false.
-#[derive(Drop)]
+#[derive(Clone, Copy)]
 pub struct Opened {
     pub genuine: bool,
     pub counter: u32,

@@ -399,7 +399,7 @@ pub fn kdf(key: &[u8], constant: &[u8], output: &mut [u8]) -> u8
 }
 
 // The specification's constants by their names there, without the ending _C.
-#[derive(Drop)]
+#[derive(Clone, Copy)]
 pub enum Constant {
     KeyUpdateEnc,
     KeyUpdateMac,
