@@ -524,8 +524,7 @@ fn open_anew(_before: Book, uid: &[u8], keys: &[u8], held: &[u8], counters: &[u3
     open(uid, keys, held, counters)
 }
 
-#[unsafe(no_mangle)]
-pub extern "C" fn garage_open(
+pub fn garage_open(
     book: &mut Book,
     uid: &[u8],
     keys: &[u8],
@@ -540,8 +539,7 @@ pub extern "C" fn garage_open(
     reply.answer
 }
 
-#[unsafe(no_mangle)]
-pub extern "C" fn garage_write(
+pub fn garage_write(
     book: &mut Book,
     target: u32,
     authority: u32,
@@ -559,8 +557,7 @@ pub extern "C" fn garage_write(
     reply.answer
 }
 
-#[unsafe(no_mangle)]
-pub extern "C" fn garage_judge(
+pub fn garage_judge(
     book: &mut Book,
     target: u32,
     m4: &[u8],

@@ -1,0 +1,25 @@
+-- `load::export_answer` meets its contract, check by check.
+-- Assumes nothing.
+use Rattle.device.specs.Account.{answer_by}
+use mathlib.Core.Path.{sym}
+use Rattle.load.proofs.export_answer.Goals as goal
+
+pub returns-then-not-is_made : goal.returns-then-not-is_made
+unfolding answer_by
+returns-then-not-is_made c = simp (sym c.is_made.ensures.value, c.if-not-is_made.true)
+
+pub returns-then-not-lengths : goal.returns-then-not-lengths
+unfolding answer_by
+returns-then-not-lengths c = simp (sym c.is_made.ensures.value, c.if-not-is_made.false, c.if-not-lengths.true)
+
+pub returns-then-is_empty : goal.returns-then-is_empty
+unfolding answer_by
+returns-then-is_empty c = simp (sym c.is_made.ensures.value, c.if-not-is_made.false, c.if-not-lengths.false, sym c.is_empty.ensures, c.if-is_empty.true)
+
+pub returns-then-not-is_marked : goal.returns-then-not-is_marked
+unfolding answer_by
+returns-then-not-is_marked c = simp (sym c.is_made.ensures.value, c.if-not-is_made.false, c.if-not-lengths.false, sym c.is_empty.ensures, c.if-is_empty.false, sym c.is_marked.ensures, c.if-not-is_marked.true)
+
+pub returns : goal.returns
+unfolding answer_by
+returns c = simp (sym c.is_made.ensures.value, c.if-not-is_made.false, c.if-not-lengths.false, sym c.is_empty.ensures, c.if-is_empty.false, sym c.is_marked.ensures, c.if-not-is_marked.false)

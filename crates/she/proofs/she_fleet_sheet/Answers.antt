@@ -1,0 +1,13 @@
+-- `she::she_fleet_sheet` meets its contract: a number too wide is refused, as it is in the core.
+-- Assumes nothing.
+use Rattle.she.proofs.Wide.{wide_short}
+use lib.ListN.{replicate}
+use mathlib.Core.Path.{◌∙◌}
+use Rattle.she.proofs.she_fleet_sheet.Goals as goal
+
+pub returns : goal.returns
+returns c = let a = c.args in
+    c.fleet_sheet.ensures
+    ∙ rw (c.to_byte.ensures, c.to_byte-2.ensures, c.to_counter.ensures)
+    (wide_short (replicate 15 0) a.authkey.now a.key.now a.m1.now a.m2.now a.m3.now
+    a.target a.authority a.counter)
