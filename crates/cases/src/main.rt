@@ -56,8 +56,12 @@
 use commands::Verdict;
 use device::{Device, Reply};
 use garage::Book;
-use libc::{STDIN_FILENO, STDOUT_FILENO};
 use modes::Constant;
+use std::io;
+use std::io::{Read, Stdout, Write};
+
+// How much of the input is read.
+const MOST: u64 = 65536;
 
 // SECRET_KEY, seed and entropy are those of AUTOSAR TR 948, 4.13.2.6 and 4.13.2.9. The bytes after the right length are there
 // for wrong ones.
@@ -191,7 +195,7 @@ const NO_COMMAND: u8 = 28;
 
 // What a line leaves to the next: the device, the book, the last M1 to M5, and the block that a cipher or GENERATE_MAC put out
 // last.
-#[derive(Drop)]
+#[derive(Clone, Copy)]
 struct Bench {
     device: Device,
     book: Book,
@@ -199,7 +203,7 @@ struct Bench {
     block: [u8; 16],
 }
 
-#[derive(Drop)]
+#[derive(Clone, Copy)]
 struct Numbers {
     n: [u64; 12],
     count: usize,
@@ -207,7 +211,7 @@ struct Numbers {
 }
 
 // What a cipher or GENERATE_MAC left: the last block of its output, and whether all of that is as it was.
-#[derive(Drop)]
+#[derive(Clone, Copy)]
 struct Used {
     answer: u8,
     device: Device,
@@ -216,7 +220,7 @@ struct Used {
 }
 
 // What LOAD_KEY or EXPORT_RAM_KEY left, with M1 to M5.
-#[derive(Drop)]
+#[derive(Clone, Copy)]
 struct Left {
     answer: u8,
     device: Device,
@@ -224,7 +228,7 @@ struct Left {
 }
 
 // What LETTER left, with M1 to M5.
-#[derive(Drop)]
+#[derive(Clone, Copy)]
 struct Posted {
     answer: u8,
     book: Book,
@@ -332,27 +336,29 @@ fn given(a: u8, b: u64, c: u64, d: u64) -> [u64; 12] {
 
 // ---- writing
 
-fn write(text: &[u8]) {
-    io::write_all(STDOUT_FILENO, text);
+fn write(out: Stdout, text: &[u8]) -> io::Result<()> {
+    let mut writer = out;
+    writer.write_all(text)
 }
 
-fn write_number(name: &[u8], n: u64) {
-    write(name);
-    io::print_decimal(STDOUT_FILENO, n);
+fn write_number(out: Stdout, name: &[u8], n: u64) -> io::Result<()> {
+    write(out, name)?;
+    let mut writer = out;
+    write!(writer, "{n}")
 }
 
 // Up to as many bytes as M1 to M5 have, which is the most that a line shows.
-fn write_hex(name: &[u8], bytes: &[u8]) {
+fn write_hex(out: Stdout, name: &[u8], bytes: &[u8]) -> io::Result<()> {
     let mut digits = [0u8; 224];
     let n = text::to_hex(bytes, &mut digits);
-    write(name);
-    write(text::front(&digits, n as u64));
+    write(out, name)?;
+    write(out, text::front(&digits, n as u64))
 }
 
-fn write_answer(answer: u8) {
-    write_number(b": ", answer as u64);
-    write(b" ");
-    write(name_of(&ANSWERS, answer));
+fn write_answer(out: Stdout, answer: u8) -> io::Result<()> {
+    write_number(out, b": ", answer as u64)?;
+    write(out, b" ")?;
+    write(out, name_of(&ANSWERS, answer))
 }
 
 // ---- the record, in rows of 16 bytes: for each slot its key, and then counter, flags and empty mark; UID, seed, random state,
@@ -395,91 +401,101 @@ fn same_device(a: Device, b: Device) -> bool {
     basics::is_same(&image_of(a), &image_of(b))
 }
 
-fn write_row(image: [u8; 560], row: u8) {
-    write_number(b"row ", row as u64);
-    write_hex(b": ", &basics::block_at(&image, row));
-    write(b"\n");
+fn write_row(out: Stdout, image: [u8; 560], row: u8) -> io::Result<()> {
+    write_number(out, b"row ", row as u64)?;
+    write_hex(out, b": ", &basics::block_at(&image, row))?;
+    write(out, b"\n")
 }
 
-fn write_rows(device: Device, from: u8, to: u8) {
+fn write_rows(out: Stdout, device: Device, from: u8, to: u8) -> io::Result<()> {
     let image = image_of(device);
     let mut row = from;
     while row < to {
-        write_row(image, row);
+        write_row(out, image, row)?;
         row += 1;
     }
+    Ok(())
 }
 
 // ---- what a line changed
 
-fn write_slot_field(row: u8, bytes: [u8; 16]) {
+fn write_slot_field(out: Stdout, row: u8, bytes: [u8; 16]) -> io::Result<()> {
     let slot = (row / 2) as u64;
     if row % 2 == 0 {
-        write_number(b", key ", slot);
-        write_hex(b" ", &bytes);
+        write_number(out, b", key ", slot)?;
+        write_hex(out, b" ", &bytes)
     } else {
-        write_number(b", slot ", slot);
-        write_hex(b" ", text::front(&bytes, 6));
+        write_number(out, b", slot ", slot)?;
+        write_hex(out, b" ", text::front(&bytes, 6))
     }
 }
 
 // What a row holds: its name, and those of its bytes that mean something.
-fn write_field(row: u8, bytes: [u8; 16]) {
+fn write_field(out: Stdout, row: u8, bytes: [u8; 16]) -> io::Result<()> {
     match row {
-        30 => write_hex(b", UID ", text::front(&bytes, 15)),
-        31 => write_hex(b", seed ", &bytes),
-        32 => write_hex(b", state ", &bytes),
-        33 => write_hex(b", random key ", &bytes),
-        34 => write_hex(b", marks ", text::front(&bytes, 11)),
-        _ => write_slot_field(row, bytes),
+        30 => write_hex(out, b", UID ", text::front(&bytes, 15)),
+        31 => write_hex(out, b", seed ", &bytes),
+        32 => write_hex(out, b", state ", &bytes),
+        33 => write_hex(out, b", random key ", &bytes),
+        34 => write_hex(out, b", marks ", text::front(&bytes, 11)),
+        _ => write_slot_field(out, row, bytes),
     }
 }
 
-fn write_where_new(row: u8, before: [u8; 560], after: [u8; 560]) {
+fn write_where_new(out: Stdout, row: u8, before: [u8; 560], after: [u8; 560]) -> io::Result<()> {
     let bytes = basics::block_at(&after, row);
     if !basics::is_same(&basics::block_at(&before, row), &bytes) {
-        write_field(row, bytes);
+        write_field(out, row, bytes)?;
     }
+    Ok(())
 }
 
-fn write_new_fields(before: [u8; 560], after: [u8; 560]) {
+fn write_new_fields(out: Stdout, before: [u8; 560], after: [u8; 560]) -> io::Result<()> {
     let mut row: u8 = 0;
     while row < ROWS {
-        write_where_new(row, before, after);
+        write_where_new(out, row, before, after)?;
         row += 1;
     }
+    Ok(())
 }
 
 // The fields in which a device differs from the one before.
-fn write_change(before: Device, after: Device) {
+fn write_change(out: Stdout, before: Device, after: Device) -> io::Result<()> {
     if same_device(before, after) {
-        write(b", no change");
+        write(out, b", no change")
     } else {
-        write_new_fields(image_of(before), image_of(after));
+        write_new_fields(out, image_of(before), image_of(after))
     }
 }
 
 // ---- the end of a line
 
-fn write_given(before: Device, after: Device, reads: bool, shown: &[u8]) {
+fn write_given(
+    out: Stdout,
+    before: Device,
+    after: Device,
+    reads: bool,
+    shown: &[u8],
+) -> io::Result<()> {
     if shown.len() > 0 {
-        write_hex(b", ", shown);
+        write_hex(out, b", ", shown)?;
     }
     if !reads {
-        write_change(before, after);
+        write_change(out, before, after)?;
     }
+    Ok(())
 }
 
 // Whether all is as it was that should be: a refusal changes nothing, and a command that only reads no device.
-fn write_kept(refused: bool, same: bool, clean: bool, reads: bool) {
+fn write_kept(out: Stdout, refused: bool, same: bool, clean: bool, reads: bool) -> io::Result<()> {
     let kept = same & clean;
     if refused & kept {
-        write(b", nothing changed");
+        write(out, b", nothing changed")?;
     }
     if refused & !kept | reads & !same {
-        write(b", CHANGED");
+        write(out, b", CHANGED")?;
     }
-    write(b"\n");
+    write(out, b"\n")
 }
 
 fn with_device(bench: Bench, device: Device) -> Bench {
@@ -489,49 +505,78 @@ fn with_device(bench: Bench, device: Device) -> Bench {
 }
 
 fn finish(
+    out: Stdout,
     bench: Bench,
     answer: u8,
     after: Device,
     reads: bool,
     clean: bool,
     shown: &[u8],
-) -> Bench {
-    write_answer(answer);
+) -> io::Result<Bench> {
+    write_answer(out, answer)?;
     if answer == 0 {
-        write_given(bench.device, after, reads, shown);
+        write_given(out, bench.device, after, reads, shown)?;
     }
-    write_kept(answer != 0, same_device(bench.device, after), clean, reads);
-    with_device(bench, after)
+    write_kept(
+        out,
+        answer != 0,
+        same_device(bench.device, after),
+        clean,
+        reads,
+    )?;
+    Ok(with_device(bench, after))
 }
 
 // Of a command that gives a number.
-fn finish_number(bench: Bench, answer: u8, after: Device, given: u8) -> Bench {
-    write_answer(answer);
-    write_number(b", gives ", given as u64);
-    write_kept(answer != 0, same_device(bench.device, after), true, true);
-    with_device(bench, after)
+fn finish_number(
+    out: Stdout,
+    bench: Bench,
+    answer: u8,
+    after: Device,
+    given: u8,
+) -> io::Result<Bench> {
+    write_answer(out, answer)?;
+    write_number(out, b", gives ", given as u64)?;
+    write_kept(
+        out,
+        answer != 0,
+        same_device(bench.device, after),
+        true,
+        true,
+    )?;
+    Ok(with_device(bench, after))
 }
 
 // Of a command that has no output besides the device.
-fn finish_change(bench: Bench, reply: Reply) -> Bench {
-    finish(bench, reply.answer, reply.device, false, true, &NOTHING)
+fn finish_change(out: Stdout, bench: Bench, reply: Reply) -> io::Result<Bench> {
+    finish(
+        out,
+        bench,
+        reply.answer,
+        reply.device,
+        false,
+        true,
+        &NOTHING,
+    )
 }
 
 // ---- random numbers, status and identity
 
-fn extend_seed(bench: Bench, size: u64) -> Bench {
+fn extend_seed(out: Stdout, bench: Bench, size: u64) -> io::Result<Bench> {
     finish_change(
+        out,
         bench,
         commands::extend_seed(bench.device, text::front(&ENTROPY, size)),
     )
 }
 
-fn rnd(bench: Bench, size: u64) -> Bench {
+fn rnd(out: Stdout, bench: Bench, size: u64) -> io::Result<Bench> {
     let mut room = [FILLER; 32];
     let end = text::front_size(&room, size);
     let output = &mut room[..end];
     let reply = commands::rnd(bench.device, output);
     finish(
+        out,
         bench,
         reply.answer,
         reply.device,
@@ -541,17 +586,18 @@ fn rnd(bench: Bench, size: u64) -> Bench {
     )
 }
 
-fn get_status(bench: Bench) -> Bench {
+fn get_status(out: Stdout, bench: Bench) -> io::Result<Bench> {
     let status = commands::get_status(bench.device);
-    finish_number(bench, status.answer, status.device, status.status)
+    finish_number(out, bench, status.answer, status.device, status.status)
 }
 
-fn get_id(bench: Bench, size: u64, room: u64) -> Bench {
+fn get_id(out: Stdout, bench: Bench, size: u64, room: u64) -> io::Result<Bench> {
     let mut buffer = [FILLER; 48];
     let end = text::front_size(&buffer, room);
     let output = &mut buffer[..end];
     let reply = commands::get_id(bench.device, text::front(&[TEXT; 32], size), output);
     finish(
+        out,
         bench,
         reply.answer,
         reply.device,
@@ -594,12 +640,20 @@ fn tried(device: Device, command: u8, n: [u64; 12]) -> Used {
     }
 }
 
-fn use_slot(bench: Bench, command: u8, n: [u64; 12]) -> Bench {
+fn use_slot(out: Stdout, bench: Bench, command: u8, n: [u64; 12]) -> io::Result<Bench> {
     let used = tried(bench.device, command, n);
     let block = used.block;
     let mut after = bench;
     after.block = block;
-    finish(after, used.answer, used.device, true, used.clean, &block)
+    finish(
+        out,
+        after,
+        used.answer,
+        used.device,
+        true,
+        used.clean,
+        &block,
+    )
 }
 
 // The text, or a block with more after it, with a bit changed.
@@ -629,56 +683,60 @@ fn verified(device: Device, block: [u8; 16], n: [u64; 12]) -> Verdict {
     )
 }
 
-fn verify_mac(bench: Bench, n: [u64; 12]) -> Bench {
+fn verify_mac(out: Stdout, bench: Bench, n: [u64; 12]) -> io::Result<Bench> {
     let block = bench.block;
     let verdict = verified(bench.device, block, n);
-    finish_number(bench, verdict.answer, verdict.device, verdict.verdict)
+    finish_number(out, bench, verdict.answer, verdict.device, verdict.verdict)
 }
 
-fn write_role(answer: u8, kept: bool) {
-    write_number(b" ", answer as u64);
+fn write_role(out: Stdout, answer: u8, kept: bool) -> io::Result<()> {
+    write_number(out, b" ", answer as u64)?;
     if !kept {
-        write(b" CHANGED");
+        write(out, b" CHANGED")?;
     }
+    Ok(())
 }
 
-fn role(device: Device, command: u8, n: [u64; 12]) {
+fn role(out: Stdout, device: Device, command: u8, n: [u64; 12]) -> io::Result<()> {
     let used = tried(device, command, n);
     let clean = used.clean | (used.answer == 0);
-    write_role(used.answer, clean & same_device(device, used.device));
+    write_role(out, used.answer, clean & same_device(device, used.device))
 }
 
-fn cipher_roles(device: Device, n: [u64; 12]) {
+fn cipher_roles(out: Stdout, device: Device, n: [u64; 12]) -> io::Result<()> {
     let mut command: u8 = 0;
     while command < VERIFY_MAC {
-        role(device, command, n);
+        role(out, device, command, n)?;
         command += 1;
     }
+    Ok(())
 }
 
-fn roles_of(device: Device, slot: u8) {
+fn roles_of(out: Stdout, device: Device, slot: u8) -> io::Result<()> {
     let mut n = given(slot, 16, 16, 16);
     n[4] = 0;
-    write_number(b"slot ", slot as u64);
-    cipher_roles(device, n);
+    write_number(out, b"slot ", slot as u64)?;
+    cipher_roles(out, device, n)?;
     let verdict = verified(device, [TEXT; 16], n);
-    write_role(verdict.answer, same_device(device, verdict.device));
-    write(b"\n");
+    write_role(out, verdict.answer, same_device(device, verdict.device))?;
+    write(out, b"\n")
 }
 
-fn roles(device: Device, to: u8) {
+fn roles(out: Stdout, device: Device, to: u8) -> io::Result<()> {
     let mut slot: u8 = 0;
     while slot < to {
-        roles_of(device, slot);
+        roles_of(out, device, slot)?;
         slot += 1;
     }
+    Ok(())
 }
 
 // ---- the boot check
 
-fn secure_boot(bench: Bench, size: u64, bit: u64) -> Bench {
+fn secure_boot(out: Stdout, bench: Bench, size: u64, bit: u64) -> io::Result<Bench> {
     let bootloader = text_with(bit);
     finish_change(
+        out,
         bench,
         boot::secure_boot(bench.device, text::front(&bootloader, size)),
     )
@@ -814,12 +872,19 @@ fn loaded(device: Device, messages: [u8; 112], n: [u64; 12]) -> Left {
 }
 
 // What the command put out begins at a place in M1 to M5.
-fn finish_messages(bench: Bench, left: Left, from: u64, reads: bool) -> Bench {
+fn finish_messages(
+    out: Stdout,
+    bench: Bench,
+    left: Left,
+    from: u64,
+    reads: bool,
+) -> io::Result<Bench> {
     let messages = left.messages;
     let mut after = bench;
     after.messages = messages;
     let shown = text::rest(&messages, from);
     finish(
+        out,
         after,
         left.answer,
         left.device,
@@ -829,16 +894,16 @@ fn finish_messages(bench: Bench, left: Left, from: u64, reads: bool) -> Bench {
     )
 }
 
-fn load_key(bench: Bench, n: [u64; 12]) -> Bench {
+fn load_key(out: Stdout, bench: Bench, n: [u64; 12]) -> io::Result<Bench> {
     let mut messages = bench.messages;
     if n[0] != ABSENT {
         messages = written(bench.device, n);
         flip(&mut messages, n[6]);
     }
-    finish_messages(bench, loaded(bench.device, messages, n), 64, false)
+    finish_messages(out, bench, loaded(bench.device, messages, n), 64, false)
 }
 
-fn write_where_taken(device: Device, slots: u8) {
+fn write_where_taken(out: Stdout, device: Device, slots: u8) -> io::Result<()> {
     let n = given(
         message::target_of(slots),
         message::authority_of(slots) as u64,
@@ -847,21 +912,23 @@ fn write_where_taken(device: Device, slots: u8) {
     );
     let left = loaded(device, written(device, n), n);
     if left.answer == 0 {
-        write_hex(b" ", &[slots]);
+        write_hex(out, b" ", &[slots])?;
     }
+    Ok(())
 }
 
-fn pairs(device: Device) {
+fn pairs(out: Stdout, device: Device) -> io::Result<()> {
     let mut slots: u64 = 0;
     while slots < 256 {
-        write_where_taken(device, text::byte_of(slots));
+        write_where_taken(out, device, text::byte_of(slots))?;
         slots += 1;
     }
+    Ok(())
 }
 
-fn write_pairs(device: Device) {
-    pairs(device);
-    write(b"\n");
+fn write_pairs(out: Stdout, device: Device) -> io::Result<()> {
+    pairs(out, device)?;
+    write(out, b"\n")
 }
 
 // ---- EXPORT_RAM_KEY
@@ -906,16 +973,16 @@ fn made(n: [u64; 12]) -> Reply {
 }
 
 // The end of a line that makes the device anew.
-fn finish_new(bench: Bench, device: Device) -> Bench {
-    write_change(bench.device, device);
-    write(b"\n");
-    with_device(bench, device)
+fn finish_new(out: Stdout, bench: Bench, device: Device) -> io::Result<Bench> {
+    write_change(out, bench.device, device)?;
+    write(out, b"\n")?;
+    Ok(with_device(bench, device))
 }
 
-fn make(bench: Bench, n: [u64; 12]) -> Bench {
+fn make(out: Stdout, bench: Bench, n: [u64; 12]) -> io::Result<Bench> {
     let reply = made(n);
-    write_answer(reply.answer);
-    finish_new(bench, reply.device)
+    write_answer(out, reply.answer)?;
+    finish_new(out, bench, reply.device)
 }
 
 fn with_key(device: Device, slot: u8, flags: u64) -> Device {
@@ -935,14 +1002,15 @@ fn prepared(last: u8, flags: u64) -> Device {
     device
 }
 
-fn prepare(bench: Bench, last: u8, flags: u64) -> Bench {
-    write(b": made");
-    finish_new(bench, prepared(last, flags))
+fn prepare(out: Stdout, bench: Bench, last: u8, flags: u64) -> io::Result<Bench> {
+    write(out, b": made")?;
+    finish_new(out, bench, prepared(last, flags))
 }
 
-fn load_plain_key(bench: Bench, slot: u64, size: u64) -> Bench {
+fn load_plain_key(out: Stdout, bench: Bench, slot: u64, size: u64) -> io::Result<Bench> {
     let key = block_with(slot_key(text::byte_of(slot)), ABSENT);
     finish_change(
+        out,
         bench,
         commands::load_plain_key(bench.device, text::front(&key, size)),
     )
@@ -1087,37 +1155,43 @@ fn told(device: Device, n: [u64; 12]) -> Device {
     with_field(device, n[4], n[5], n[6])
 }
 
-fn write_opened(answer: u8, book: Book) {
-    write_answer(answer);
+fn write_opened(out: Stdout, answer: u8, book: Book) -> io::Result<()> {
+    write_answer(out, answer)?;
     if answer == 0 {
-        write_hex(b", held ", &book.held);
+        write_hex(out, b", held ", &book.held)?;
     } else if same_book(book, blank_book()) {
-        write(b", blank book");
+        write(out, b", blank book")?;
     } else {
-        write(b", NOT BLANK");
+        write(out, b", NOT BLANK")?;
     }
-    write(b"\n");
+    write(out, b"\n")
 }
 
-fn open_book(bench: Bench, n: [u64; 12]) -> Bench {
+fn open_book(out: Stdout, bench: Bench, n: [u64; 12]) -> io::Result<Bench> {
     let reply = opened(told(bench.device, n), n);
     let book = reply.book;
-    write_opened(reply.answer, book);
+    write_opened(out, reply.answer, book)?;
     let mut after = bench;
     after.book = book;
-    after
+    Ok(after)
 }
 
 // ---- LETTER and RECEIPT
 
 // The end of such a line, with what it left of the book and of M1 to M5.
-fn finish_book(bench: Bench, refused: bool, book: Book, messages: [u8; 112]) -> Bench {
+fn finish_book(
+    out: Stdout,
+    bench: Bench,
+    refused: bool,
+    book: Book,
+    messages: [u8; 112],
+) -> io::Result<Bench> {
     let clean = basics::is_same(&bench.messages, &messages);
-    write_kept(refused, same_book(bench.book, book), clean, false);
+    write_kept(out, refused, same_book(bench.book, book), clean, false)?;
     let mut after = bench;
     after.book = book;
     after.messages = messages;
-    after
+    Ok(after)
 }
 
 fn letter_reply(
@@ -1166,22 +1240,23 @@ fn post(book: Book, messages: [u8; 112], n: [u64; 12]) -> Posted {
     }
 }
 
-fn write_posted(answer: u8, messages: [u8; 112], counter: u32) {
-    write_answer(answer);
+fn write_posted(out: Stdout, answer: u8, messages: [u8; 112], counter: u32) -> io::Result<()> {
+    write_answer(out, answer)?;
     if answer == 0 {
-        write_hex(b", ", text::front(&messages, 64));
-        write_number(b", counter ", counter as u64);
+        write_hex(out, b", ", text::front(&messages, 64))?;
+        write_number(out, b", counter ", counter as u64)?;
     }
+    Ok(())
 }
 
-fn letter(bench: Bench, n: [u64; 12]) -> Bench {
+fn letter(out: Stdout, bench: Bench, n: [u64; 12]) -> io::Result<Bench> {
     let before = bench.messages;
     let posted = post(bench.book, before, n);
     let messages = posted.messages;
     let book = posted.book;
     let counter = word_at(&book.newcounters, text::byte_of(n[0]) as usize);
-    write_posted(posted.answer, messages, counter);
-    finish_book(bench, posted.answer != 0, book, messages)
+    write_posted(out, posted.answer, messages, counter)?;
+    finish_book(out, bench, posted.answer != 0, book, messages)
 }
 
 fn judged(book: Book, proof: &[u8], n: [u64; 12], verdict: &mut u8) -> garage::Reply {
@@ -1190,16 +1265,17 @@ fn judged(book: Book, proof: &[u8], n: [u64; 12], verdict: &mut u8) -> garage::R
     garage::judge(book, text::word_of(n[0]), m4, m5, verdict)
 }
 
-fn write_judged(answer: u8, verdict: u8, book: Book, at: usize) {
-    write_answer(answer);
-    write_number(b", gives ", verdict as u64);
+fn write_judged(out: Stdout, answer: u8, verdict: u8, book: Book, at: usize) -> io::Result<()> {
+    write_answer(out, answer)?;
+    write_number(out, b", gives ", verdict as u64)?;
     if verdict == 1 {
-        write_number(b", held ", basics::byte_at(&book.held, at) as u64);
-        write_number(b", counter ", word_at(&book.counters, at) as u64);
+        write_number(out, b", held ", basics::byte_at(&book.held, at) as u64)?;
+        write_number(out, b", counter ", word_at(&book.counters, at) as u64)?;
     }
+    Ok(())
 }
 
-fn receipt(bench: Bench, n: [u64; 12]) -> Bench {
+fn receipt(out: Stdout, bench: Bench, n: [u64; 12]) -> io::Result<Bench> {
     let messages = bench.messages;
     let mut proof = [0u8; 48];
     put(&mut proof, 0, text::rest(&messages, 64));
@@ -1207,86 +1283,92 @@ fn receipt(bench: Bench, n: [u64; 12]) -> Bench {
     let mut verdict = FILLER;
     let reply = judged(bench.book, &proof, n, &mut verdict);
     let book = reply.book;
-    write_judged(reply.answer, verdict, book, text::byte_of(n[0]) as usize);
-    finish_book(bench, verdict != 1, book, messages)
+    write_judged(
+        out,
+        reply.answer,
+        verdict,
+        book,
+        text::byte_of(n[0]) as usize,
+    )?;
+    finish_book(out, bench, verdict != 1, book, messages)
 }
 
-fn run_book(bench: Bench, command: u8, n: [u64; 12]) -> Bench {
+fn run_book(out: Stdout, bench: Bench, command: u8, n: [u64; 12]) -> io::Result<Bench> {
     match command {
-        BOOK => open_book(bench, n),
-        LETTER => letter(bench, n),
-        _ => receipt(bench, n),
+        BOOK => open_book(out, bench, n),
+        LETTER => letter(out, bench, n),
+        _ => receipt(out, bench, n),
     }
 }
 
 // ---- lines
 
 // A line that shows something of the device.
-fn show(device: Device, command: u8, n: [u64; 12]) {
+fn show(out: Stdout, device: Device, command: u8, n: [u64; 12]) -> io::Result<()> {
     match command {
-        RECORD => write_rows(device, text::byte_of(n[0]), text::byte_of(n[1])),
-        ROLES => roles(device, text::byte_of(n[0])),
-        PAIRS => write_pairs(device),
-        _ => write(b"no such command\n"),
+        RECORD => write_rows(out, device, text::byte_of(n[0]), text::byte_of(n[1])),
+        ROLES => roles(out, device, text::byte_of(n[0])),
+        PAIRS => write_pairs(out, device),
+        _ => write(out, b"no such command\n"),
     }
 }
 
 // A line that is no command of the device.
-fn run_other(bench: Bench, command: u8, n: [u64; 12]) -> Bench {
-    write(b"\n");
+fn run_other(out: Stdout, bench: Bench, command: u8, n: [u64; 12]) -> io::Result<Bench> {
+    write(out, b"\n")?;
     match command {
-        SET => with_device(bench, with_field(bench.device, n[0], n[1], n[2])),
+        SET => Ok(with_device(bench, with_field(bench.device, n[0], n[1], n[2]))),
         _ => {
-            show(bench.device, command, n);
-            bench
+            show(out, bench.device, command, n)?;
+            Ok(bench)
         }
     }
 }
 
-fn run_change(bench: Bench, command: u8) -> Bench {
+fn run_change(out: Stdout, bench: Bench, command: u8) -> io::Result<Bench> {
     match command {
-        RESET => finish_change(bench, commands::reset(bench.device)),
-        DEBUGGER => finish_change(bench, commands::attach_debugger(bench.device)),
-        INIT_RNG => finish_change(bench, commands::init_rng(bench.device)),
-        BOOT_FAILURE => finish_change(bench, boot::boot_failure(bench.device)),
-        _ => finish_change(bench, boot::boot_ok(bench.device)),
+        RESET => finish_change(out, bench, commands::reset(bench.device)),
+        DEBUGGER => finish_change(out, bench, commands::attach_debugger(bench.device)),
+        INIT_RNG => finish_change(out, bench, commands::init_rng(bench.device)),
+        BOOT_FAILURE => finish_change(out, bench, boot::boot_failure(bench.device)),
+        _ => finish_change(out, bench, boot::boot_ok(bench.device)),
     }
 }
 
-fn run_command(bench: Bench, command: u8, n: [u64; 12]) -> Bench {
+fn run_command(out: Stdout, bench: Bench, command: u8, n: [u64; 12]) -> io::Result<Bench> {
     match command {
-        ENC_ECB..=GENERATE_MAC => use_slot(bench, command, n),
-        VERIFY_MAC => verify_mac(bench, n),
-        RESET..=BOOT_OK => run_change(bench, command),
-        GET_STATUS => get_status(bench),
-        EXTEND_SEED => extend_seed(bench, n[0]),
-        RND => rnd(bench, n[0]),
-        SECURE_BOOT => secure_boot(bench, n[0], n[1]),
-        LOAD_PLAIN_KEY => load_plain_key(bench, n[0], n[1]),
-        GET_ID => get_id(bench, n[0], n[1]),
-        LOAD_KEY => load_key(bench, n),
-        EXPORT_RAM_KEY => finish_messages(bench, exported(bench.device, n), 0, true),
-        MAKE => make(bench, n),
-        DEVICE => prepare(bench, text::byte_of(n[0]), n[1]),
-        BOOK..=RECEIPT => run_book(bench, command, n),
-        _ => run_other(bench, command, n),
+        ENC_ECB..=GENERATE_MAC => use_slot(out, bench, command, n),
+        VERIFY_MAC => verify_mac(out, bench, n),
+        RESET..=BOOT_OK => run_change(out, bench, command),
+        GET_STATUS => get_status(out, bench),
+        EXTEND_SEED => extend_seed(out, bench, n[0]),
+        RND => rnd(out, bench, n[0]),
+        SECURE_BOOT => secure_boot(out, bench, n[0], n[1]),
+        LOAD_PLAIN_KEY => load_plain_key(out, bench, n[0], n[1]),
+        GET_ID => get_id(out, bench, n[0], n[1]),
+        LOAD_KEY => load_key(out, bench, n),
+        EXPORT_RAM_KEY => finish_messages(out, bench, exported(bench.device, n), 0, true),
+        MAKE => make(out, bench, n),
+        DEVICE => prepare(out, bench, text::byte_of(n[0]), n[1]),
+        BOOK..=RECEIPT => run_book(out, bench, command, n),
+        _ => run_other(out, bench, command, n),
     }
 }
 
-fn no_command(bench: Bench) -> Bench {
-    write(b"\n");
-    bench
+fn no_command(out: Stdout, bench: Bench) -> io::Result<Bench> {
+    write(out, b"\n")?;
+    Ok(bench)
 }
 
-fn run_line(bench: Bench, line: &[u8]) -> Bench {
-    write(line);
+fn run_line(out: Stdout, bench: Bench, line: &[u8]) -> io::Result<Bench> {
+    write(out, line)?;
     match basics::byte_at(line, 0) {
-        0 | b'#' => no_command(bench),
-        _ => run_command(bench, command_of(line), numbers_of(line)),
+        0 | b'#' => no_command(out, bench),
+        _ => run_command(out, bench, command_of(line), numbers_of(line)),
     }
 }
 
-fn run(lines: &[u8]) {
+fn run(out: Stdout, lines: &[u8]) -> io::Result<()> {
     let mut bench = Bench {
         device: device::blank(),
         book: blank_book(),
@@ -1295,14 +1377,15 @@ fn run(lines: &[u8]) {
     };
     let mut left = lines;
     while left.len() > 0 {
-        bench = run_line(bench, text::before(left, b'\n'));
+        bench = run_line(out, bench, text::before(left, b'\n'))?;
         let more = text::after(left, b'\n');
         left = more;
     }
+    Ok(())
 }
 
-fn main() {
-    let mut input = io::large_buffer();
-    let n = io::read_full(STDIN_FILENO, &mut input);
-    run(&input[..n]);
+fn main(rt: HostRuntime) -> io::Result<()> {
+    let mut input = Vec::new(rt.alloc());
+    rt.stdin().take(MOST).read_to_end(&mut input)?;
+    run(rt.stdout(), &input)
 }

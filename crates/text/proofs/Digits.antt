@@ -10,7 +10,7 @@ use borrow.Author.Tests.{lt-ltb, le-ltb, eqb-true, eqb-false}
 use lib.Dec.{eqb, ltb}
 use lib.ListN.{length, take, get_or, set, length-append}
 use lib.Seq.{take-suc, take_all, get_or-append_seam}
-use Rattle.bytes.specs.Bytes.{index_of, index_after}
+use Rattle.text.specs.Marks.{index_of}
 use Rattle.laws.specs.All.{all}
 use Rattle.laws.proofs.Test.{agree}
 use Rattle.text.proofs.Buffers.{over_none, over_more}
@@ -112,7 +112,7 @@ read_all b w text i count high h read =
 
 -- ---- bytes that were put in digits are read back
 letter_value : (k : ℕ) → k < 16 → digit_value (get_or letters k 0) ≡ k
-unfolding all index_of index_after
+unfolding all index_of
 letter_value = agree (λ k. digit_value (get_or letters k 0)) (λ k. k) 16 refl
 
 read_letter : (n : ℕ) (text : List ℕ) → digits_in (letter_of n ∷ text) ≡ n % 16 ∷ digits_in text

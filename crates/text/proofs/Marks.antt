@@ -2,11 +2,10 @@
 -- Assumes nothing.
 use mathlib.Core.Path.{◌≡◌, ap}
 use mathlib.Core.List.{List}
-use Prim.Native.Nat.{ℕ, ◌+◌, ◌-◌, ◌<◌}
+use Prim.Native.Nat.{ℕ, ◌+◌, ◌<◌}
 use native.Mathlib.Omega.{arith}
 use lib.ListN.{length, length-drop}
-use Rattle.bytes.specs.Bytes.{index_of}
-use Rattle.text.specs.Marks.{after_mark}
+use Rattle.text.specs.Marks.{index_of, after_mark}
 
 pub after_shorter : (mark : ℕ) (text more : List ℕ) → more ≡ after_mark mark text → 0 < length text → length more < length text
 unfolding after_mark

@@ -2,12 +2,10 @@
 -- Assumes nothing.
 use mathlib.Core.Path.{◌≡◌, refl, sym, ap, ◌∙◌}
 use mathlib.Core.List.{List, [], ◌∷◌}
-use Prim.Native.Nat.{ℕ, zero, suc, ◌+◌, ◌-◌, min}
-use native.Mathlib.Nat.{zero-add}
+use Prim.Native.Nat.{ℕ, zero, suc, ◌-◌, min}
 use native.Mathlib.Omega.{arith}
 use lib.ListN.{length, take, drop, length-take, length-drop}
-use lib.Seq.{take_all, take-length}
-use Rattle.bytes.specs.Bytes.{index_of, slice}
+use lib.Seq.{take_all}
 
 -- no more than there are
 take_length_take : (n : ℕ) (l : List ℕ) → take (length (take n l)) l ≡ take n l
@@ -29,8 +27,3 @@ drop_size n r l e = ap (λ (k : ℕ). drop k l) (e ∙ sym (length-take n l)) �
 -- what `&l[k..]` is, as its count and its start have it
 pub whole_rest : (k : ℕ) (l : List ℕ) → take (length l - k) (drop k l) ≡ drop k l
 whole_rest k l = take_all (length l - k) (drop k l) (omega (arith, length-drop k l))
-
--- the place of a mark in all of a text
-pub in_all : (mark : ℕ) (l : List ℕ) (r : ℕ) → r ≡ 0 + index_of mark (slice 0 (length l) l) → r ≡ index_of mark l
-unfolding slice
-in_all mark l r e = e ∙ zero-add _ ∙ ap (index_of mark) (take-length l)

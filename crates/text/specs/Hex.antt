@@ -1,7 +1,7 @@
 -- Hexadecimal digits: the letter of each and its value, bytes written in digits, and the bytes that stand in a text in digits.
 -- Assumes nothing.
 use Rattle.std.specs.Prelude.{cond, List, [], ◌∷◌, ℕ, ◌+◌, ◌*◌, ◌/◌, ◌%◌, ltb, get_or}
-use Rattle.bytes.specs.Bytes.{index_of}
+use Rattle.text.specs.Marks.{index_of}
 
 -- 0 to 9, a to f
 abbrev pub letters : List ℕ

@@ -1,7 +1,11 @@
--- A text that marks part: what stands before the first of them, and what comes after it.
+-- A text that marks part: where the first of them stands, what stands before it, and what comes after it.
 -- Assumes nothing.
-use Rattle.std.specs.Prelude.{List, ℕ, ◌+◌, take, drop}
-use Rattle.bytes.specs.Bytes.{index_of}
+use Rattle.std.specs.Prelude.{List, ℕ, ◌+◌, eqb, take, drop}
+use Rattle.std.specs.List.{position_or_len}
+
+-- the first place at which the mark stands, or the length where it stands nowhere
+unfoldable pub index_of : ℕ → List ℕ → ℕ
+index_of mark text = position_or_len (λ c. eqb c mark) text
 
 -- all where there is none
 unfoldable pub before_mark : ℕ → List ℕ → List ℕ

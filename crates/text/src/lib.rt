@@ -1,12 +1,11 @@
 // What programs share in reading a text and in writing one: parts of it, numbers for a parameter, and hexadecimal digits. Nothing
-// here reads or writes a file: a program does, by its own call of the kit's library.
+// here reads or writes a file: the programs do that themselves.
 #![tactic(auto)]
 
 ghost use Rattle.std.specs.Prelude.{◌≡◌, cond, ◌-◌, ◌*◌, ◌/◌, ◌%◌, ◌≤◌, min, eqb, length, take, drop, get_or, set};
-ghost use Rattle.bytes.specs.Bytes.{index_of};
 ghost use Rattle.text.specs.Buffers.{HasFront, over};
 ghost use Rattle.text.specs.Hex.{letter_of, digit_value, in_digits, digits_in, pairs};
-ghost use Rattle.text.specs.Marks.{before_mark, after_mark};
+ghost use Rattle.text.specs.Marks.{index_of, before_mark, after_mark};
 ghost use Rattle.text.specs.Numbers.{in_four};
 
 // ---- parts
@@ -53,7 +52,7 @@ fn place_of(text: &[u8], mark: u8) -> usize
     ensures value { result ≡ index_of mark text.now }
     ensures upper_bound { result ≤ length text.now }
 {
-    bytes::scan::find(text, 0, text.len(), mark)
+    text.iter().position(|c| *c == mark).unwrap_or(text.len())
 }
 
 // What stands before the first such mark: all, where there is none.

@@ -40,7 +40,11 @@
 
 ghost use Rattle.text.specs.Buffers.{HasFront};
 
-use libc::{STDIN_FILENO, STDOUT_FILENO};
+use std::io;
+use std::io::{Read, Stdout, Write};
+
+// How much of the input is read.
+const MOST: u64 = 65536;
 
 // How many bytes an operand of a routine on lent buffers can have.
 const ROOM: usize = 8192;
@@ -91,77 +95,79 @@ fn number(line: &[u8], n: usize) -> u64 {
     value_of(&bytes[..size])
 }
 
-fn write(text: &[u8]) {
-    io::write_all(STDOUT_FILENO, text);
+fn write(out: Stdout, text: &[u8]) -> io::Result<()> {
+    let mut writer = out;
+    writer.write_all(text)
 }
 
 // Up to sixteen bytes as a line.
-fn write_row(row: &[u8]) {
+fn write_row(out: Stdout, row: &[u8]) -> io::Result<()> {
     let mut line = [b'\n'; 33];
     let n = text::to_hex(row, &mut line);
-    write(text::front(&line, n as u64 + 1));
+    write(out, text::front(&line, n as u64 + 1))
 }
 
-fn write_bytes(bytes: &[u8]) {
+fn write_bytes(out: Stdout, bytes: &[u8]) -> io::Result<()> {
     let mut left = bytes;
     while left.len() > 0 {
-        write_row(text::front(left, 16));
+        write_row(out, text::front(left, 16))?;
         let more = text::rest(left, 16);
         left = more;
     }
+    Ok(())
 }
 
 // The answer of a routine on lent buffers, and its buffer.
-fn write_outcome(answer: u8, output: &[u8]) {
-    write_bytes(&[answer]);
-    write_bytes(output);
+fn write_outcome(out: Stdout, answer: u8, output: &[u8]) -> io::Result<()> {
+    write_bytes(out, &[answer])?;
+    write_bytes(out, output)
 }
 
-fn no_such_vector() {
-    write(b"no such vector\n");
+fn no_such_vector(out: Stdout) -> io::Result<()> {
+    write(out, b"no such vector\n")
 }
 
 // ---- the routines on blocks
 
-fn schedule(line: &[u8]) {
+fn schedule(out: Stdout, line: &[u8]) -> io::Result<()> {
     let mut key = [0u8; 16];
     if digits(line, 0, &mut key) != 32 {
-        return no_such_vector();
+        return no_such_vector(out);
     }
-    write_bytes(&aes::expand_key(key));
+    write_bytes(out, &aes::expand_key(key))
 }
 
-fn subkeys(line: &[u8]) {
+fn subkeys(out: Stdout, line: &[u8]) -> io::Result<()> {
     let mut key = [0u8; 16];
     if digits(line, 0, &mut key) != 32 {
-        return no_such_vector();
+        return no_such_vector(out);
     }
     let w = aes::expand_key(key);
-    write_bytes(&modes::subkey_1(&w));
-    write_bytes(&modes::subkey_2(&w));
+    write_bytes(out, &modes::subkey_1(&w))?;
+    write_bytes(out, &modes::subkey_2(&w))
 }
 
 // What takes two blocks: enciphering, deciphering, and the extension of a seed.
-fn of_two_blocks(routine: u8, line: &[u8]) {
+fn of_two_blocks(out: Stdout, routine: u8, line: &[u8]) -> io::Result<()> {
     let mut a = [0u8; 16];
     let mut b = [0u8; 16];
     if digits(line, 0, &mut a) != 32 {
-        return no_such_vector();
+        return no_such_vector(out);
     }
     if digits(line, 1, &mut b) != 32 {
-        return no_such_vector();
+        return no_such_vector(out);
     }
     match routine {
-        b'E' => write_bytes(&aes::encrypt(a, b)),
-        b'D' => write_bytes(&aes::decrypt(a, b)),
-        _ => write_bytes(&modes::extend(a, b)),
+        b'E' => write_bytes(out, &aes::encrypt(a, b)),
+        b'D' => write_bytes(out, &aes::decrypt(a, b)),
+        _ => write_bytes(out, &modes::extend(a, b)),
     }
 }
 
-fn derived(line: &[u8]) {
+fn derived(out: Stdout, line: &[u8]) -> io::Result<()> {
     let mut key = [0u8; 16];
     if digits(line, 0, &mut key) != 32 {
-        return no_such_vector();
+        return no_such_vector(out);
     }
     let name = match number(line, 1) {
         1 => modes::Constant::KeyUpdateEnc,
@@ -169,14 +175,14 @@ fn derived(line: &[u8]) {
         3 => modes::Constant::DebugKey,
         4 => modes::Constant::PrngKey,
         5 => modes::Constant::PrngSeedKey,
-        _ => return no_such_vector(),
+        _ => return no_such_vector(out),
     };
-    write_bytes(&modes::derive(key, name));
+    write_bytes(out, &modes::derive(key, name))
 }
 
 // ---- the routines on lent buffers
 
-fn of_three_buffers(routine: u8, line: &[u8]) {
+fn of_three_buffers(out: Stdout, routine: u8, line: &[u8]) -> io::Result<()> {
     let mut first = [0u8; ROOM];
     let mut second = [0u8; ROOM];
     let mut third = [0u8; ROOM];
@@ -192,10 +198,10 @@ fn of_three_buffers(routine: u8, line: &[u8]) {
         b'H' => modes::compress(a, b, output),
         _ => modes::kdf(a, b, output),
     };
-    write_outcome(answer, output);
+    write_outcome(out, answer, output)
 }
 
-fn cbc(routine: u8, line: &[u8]) {
+fn cbc(out: Stdout, routine: u8, line: &[u8]) -> io::Result<()> {
     let mut key = [0u8; ROOM];
     let mut iv = [0u8; ROOM];
     let mut text = [0u8; ROOM];
@@ -213,7 +219,7 @@ fn cbc(routine: u8, line: &[u8]) {
     } else {
         modes::cbc_decrypt(k, v, input, output)
     };
-    write_outcome(answer, output);
+    write_outcome(out, answer, output)
 }
 
 // A text of one block again and again, as many as there is room for.
@@ -232,10 +238,10 @@ fn size_of(count: u64) -> u64 {
     if count < 4100 { 16 * count } else { 65600 }
 }
 
-fn cbc_repeated(line: &[u8]) {
+fn cbc_repeated(out: Stdout, line: &[u8]) -> io::Result<()> {
     let mut block = [0u8; 16];
     if digits(line, 2, &mut block) != 32 {
-        return no_such_vector();
+        return no_such_vector(out);
     }
     let size = size_of(number(line, 3));
     let mut key = [0u8; ROOM];
@@ -252,33 +258,38 @@ fn cbc_repeated(line: &[u8]) {
         text::front(&input, size),
         output,
     );
-    write_outcome(answer, text::last(output, 16));
+    write_outcome(out, answer, text::last(output, 16))
 }
 
 // The key and the output are operands 0 and `last`, the message is lent.
-fn mac(line: &[u8], last: usize, message: &[u8]) {
+fn mac(out: Stdout, line: &[u8], last: usize, message: &[u8]) -> io::Result<()> {
     let mut key = [0u8; ROOM];
     let mut room = [0u8; ROOM];
     let key_size = operand(line, 0, &mut key);
     let room_size = operand(line, last, &mut room);
     let output = &mut room[..room_size];
     let answer = modes::cmac(&key[..key_size], number(line, 1), message, output);
-    write_outcome(answer, output);
+    write_outcome(out, answer, output)
 }
 
-fn cmac(line: &[u8]) {
+fn cmac(out: Stdout, line: &[u8]) -> io::Result<()> {
     let mut message = [0u8; ROOM];
     let size = operand(line, 2, &mut message);
-    mac(line, 3, &message[..size]);
+    mac(out, line, 3, &message[..size])
 }
 
-fn cmac_repeated(line: &[u8]) {
+fn cmac_repeated(out: Stdout, line: &[u8]) -> io::Result<()> {
     let mut block = [0u8; 16];
     if digits(line, 2, &mut block) != 32 {
-        return no_such_vector();
+        return no_such_vector(out);
     }
     let message = repeated(block);
-    mac(line, 4, text::front(&message, size_of(number(line, 3))));
+    mac(
+        out,
+        line,
+        4,
+        text::front(&message, size_of(number(line, 3))),
+    )
 }
 
 // ---- key messages
@@ -310,7 +321,7 @@ fn write_form(routine: u8, line: &[u8], m1: &mut [u8], m2: &mut [u8], m3: &mut [
     }
 }
 
-fn messages(routine: u8, line: &[u8]) {
+fn messages(out: Stdout, routine: u8, line: &[u8]) -> io::Result<()> {
     let mut room_1 = [0u8; MESSAGE_ROOM];
     let mut room_2 = [0u8; MESSAGE_ROOM];
     let mut room_3 = [0u8; MESSAGE_ROOM];
@@ -321,12 +332,12 @@ fn messages(routine: u8, line: &[u8]) {
     let m2 = &mut room_2[..size_2];
     let m3 = &mut room_3[..size_3];
     let answer = write_form(routine, line, m1, m2, m3);
-    write_outcome(answer, m1);
-    write_bytes(m2);
-    write_bytes(m3);
+    write_outcome(out, answer, m1)?;
+    write_bytes(out, m2)?;
+    write_bytes(out, m3)
 }
 
-fn proof(line: &[u8]) {
+fn proof(out: Stdout, line: &[u8]) -> io::Result<()> {
     let mut uid = [0u8; MESSAGE_ROOM];
     let mut key = [0u8; MESSAGE_ROOM];
     let mut room_4 = [0u8; MESSAGE_ROOM];
@@ -346,11 +357,11 @@ fn proof(line: &[u8]) {
         m4,
         m5,
     );
-    write_outcome(answer, m4);
-    write_bytes(m5);
+    write_outcome(out, answer, m4)?;
+    write_bytes(out, m5)
 }
 
-fn open(line: &[u8]) {
+fn open(out: Stdout, line: &[u8]) -> io::Result<()> {
     let mut authkey = [0u8; MESSAGE_ROOM];
     let mut m1 = [0u8; MESSAGE_ROOM];
     let mut m2 = [0u8; MESSAGE_ROOM];
@@ -365,10 +376,10 @@ fn open(line: &[u8]) {
         &m2[..size_2],
         &m3[..size_3],
     );
-    write_bytes(&[opened.genuine as u8]);
-    write_bytes(&text::bytes_of(opened.counter));
-    write_bytes(&[opened.flags, opened.zerofill as u8]);
-    write_bytes(&opened.key);
+    write_bytes(out, &[opened.genuine as u8])?;
+    write_bytes(out, &text::bytes_of(opened.counter))?;
+    write_bytes(out, &[opened.flags, opened.zerofill as u8])?;
+    write_bytes(out, &opened.key)
 }
 
 fn kind_number(slot: u8) -> u8 {
@@ -383,63 +394,69 @@ fn kind_number(slot: u8) -> u8 {
     }
 }
 
-fn slots(line: &[u8]) {
+fn slots(out: Stdout, line: &[u8]) -> io::Result<()> {
     let target = text::byte_of(number(line, 0));
     let authority = text::byte_of(number(line, 1));
-    write_bytes(&[
-        kind_number(target),
-        message::has_role(target, message::Role::Cipher) as u8,
-        message::has_role(target, message::Role::GenerateMac) as u8,
-        message::has_role(target, message::Role::VerifyMac) as u8,
-        message::flags_kept(target),
-        (message::counter_kept(target, 1) % 256) as u8,
-        message::is_allowed(target, authority) as u8,
-    ]);
+    write_bytes(
+        out,
+        &[
+            kind_number(target),
+            message::has_role(target, message::Role::Cipher) as u8,
+            message::has_role(target, message::Role::GenerateMac) as u8,
+            message::has_role(target, message::Role::VerifyMac) as u8,
+            message::flags_kept(target),
+            (message::counter_kept(target, 1) % 256) as u8,
+            message::is_allowed(target, authority) as u8,
+        ],
+    )
 }
 
-fn slot_byte(line: &[u8]) {
+fn slot_byte(out: Stdout, line: &[u8]) -> io::Result<()> {
     let byte = text::byte_of(number(line, 0));
-    write_bytes(&[message::target_of(byte), message::authority_of(byte)]);
+    write_bytes(
+        out,
+        &[message::target_of(byte), message::authority_of(byte)],
+    )
 }
 
-fn run_line(line: &[u8]) {
+fn run_line(out: Stdout, line: &[u8]) -> io::Result<()> {
     if line.len() == 0 || line[0] == b'#' {
-        write(line);
-        write(b"\n");
-        return;
+        write(out, line)?;
+        return write(out, b"\n");
     }
     let routine = line[0];
     let operands = &line[1..];
     match routine {
-        b'K' => schedule(operands),
-        b'S' => subkeys(operands),
-        b'N' => derived(operands),
-        b'E' | b'D' | b'X' => of_two_blocks(routine, operands),
-        b'e' | b'd' | b'H' | b'F' => of_three_buffers(routine, operands),
-        b'C' | b'c' => cbc(routine, operands),
-        b'L' => cbc_repeated(operands),
-        b'M' => cmac(operands),
-        b'R' => cmac_repeated(operands),
-        b'W' | b'w' | b'f' => messages(routine, operands),
-        b'A' => proof(operands),
-        b'O' => open(operands),
-        b'P' => slots(operands),
-        b'B' => slot_byte(operands),
-        _ => no_such_vector(),
+        b'K' => schedule(out, operands),
+        b'S' => subkeys(out, operands),
+        b'N' => derived(out, operands),
+        b'E' | b'D' | b'X' => of_two_blocks(out, routine, operands),
+        b'e' | b'd' | b'H' | b'F' => of_three_buffers(out, routine, operands),
+        b'C' | b'c' => cbc(out, routine, operands),
+        b'L' => cbc_repeated(out, operands),
+        b'M' => cmac(out, operands),
+        b'R' => cmac_repeated(out, operands),
+        b'W' | b'w' | b'f' => messages(out, routine, operands),
+        b'A' => proof(out, operands),
+        b'O' => open(out, operands),
+        b'P' => slots(out, operands),
+        b'B' => slot_byte(out, operands),
+        _ => no_such_vector(out),
     }
 }
 
-fn run(lines: &[u8]) {
+fn run(out: Stdout, lines: &[u8]) -> io::Result<()> {
     let mut left = lines;
     while left.len() > 0 {
-        run_line(text::before(left, b'\n'));
+        run_line(out, text::before(left, b'\n'))?;
         let more = text::after(left, b'\n');
         left = more;
     }
+    Ok(())
 }
 
-fn main() {
-    let mut input = io::large_buffer();
-    let n = io::read_full(STDIN_FILENO, &mut input);
-    run(&input[..n]);
+fn main(rt: HostRuntime) -> io::Result<()> {
+    let mut input = Vec::new(rt.alloc());
+    rt.stdin().take(MOST).read_to_end(&mut input)?;
+    run(rt.stdout(), &input)
 }
