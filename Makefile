@@ -41,7 +41,7 @@ soak:
 cases:
 	@sh tools/needs.sh
 	@mkdir -p target
-	@sh tools/watch.sh "proving the programs" target/cases.log rt check cases vectors || { cat target/cases.log; exit 1; }
+	@sh tools/build-program.sh cases vectors
 	@sh tools/run-program.sh cases <crates/cases/stdin
 	@sh tools/run-program.sh vectors <crates/vectors/stdin
 

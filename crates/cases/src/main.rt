@@ -61,7 +61,7 @@ use std::io;
 use std::io::{Read, Stdout, Write};
 
 // How much of the input is read.
-const MOST: u64 = 65536;
+const MOST: usize = 65536;
 
 // SECRET_KEY, seed and entropy are those of AUTOSAR TR 948, 4.13.2.6 and 4.13.2.9. The bytes after the right length are there
 // for wrong ones.
@@ -1385,7 +1385,15 @@ fn run(out: Stdout, lines: &[u8]) -> io::Result<()> {
 }
 
 fn main(rt: HostRuntime) -> io::Result<()> {
-    let mut input = Vec::new(rt.alloc());
-    rt.stdin().take(MOST).read_to_end(&mut input)?;
-    run(rt.stdout(), &input)
+    let mut input = [0u8; MOST];
+    let mut n: usize = 0;
+    let mut stdin = rt.stdin();
+    while n < MOST {
+        let more = stdin.read(&mut input[n..])?;
+        if more == 0 {
+            break;
+        }
+        n += more;
+    }
+    run(rt.stdout(), &input[..n])
 }
