@@ -38,8 +38,8 @@ part() { # WHAT COMMAND..: runs it and counts it
     count $? "$1"
 }
 
-# `rt ci` counts by itself: crates, must-fail edits and programs. An edit that it cannot read fails it not, but its line `rt: ok` then
-# has a number of bad ones.
+# `rt ci` counts by itself: crates, must-fail edits and programs. An edit that it cannot read does not fail it, but then its line
+# `rt: ok` has the number of bad ones.
 run "the proofs, the must-fail edits and the programs (rt ci)" rt ci
 status=$?
 verdict=$(tail -n 1 "$log")
@@ -53,7 +53,7 @@ case $verdict in
 esac
 [ "$status" -eq 0 ] || [ "$failed" -gt 0 ] || count 1 "rt ci ended with status $status"
 bad=$(sed -n 's/^rt: ok.*, \([0-9][0-9]*\) bad.*/\1/p' "$log")
-[ "${bad:-none}" = 0 ] || count 1 "must-fail edits that rt ci could not read: ${bad:-it does not say}"
+[ "${bad:-0}" -eq 0 ] || count 1 "$bad must-fail edits could not be read"
 
 part "the published vectors, held to what is made of them" python3 tools/vectors.py --check
 part "the pictures, held to what they show" python3 tools/pictures.py --check
