@@ -146,7 +146,7 @@ def hold_promises(routines, is_writing):
         promised = re.findall(r"≡ (?:perform )?\(?([^\s()]+)", head)
         check(promised, f"{crate}::{name} promises no equation")
         for lent in re.findall(r"(\w+): &mut ", head):
-            check(f"{lent}.new" in head, f"{crate}::{name} promises nothing of what {lent} holds at exit")
+            check(re.search(rf"(?<![\w.]){lent}\.new\b", head), f"{crate}::{name} promises nothing of what {lent} holds at exit")
         check(laws.get((crate, name)) == [law_of(head)], f"{crate}::{name} is settled by {law_of(head)}, and its row names another law")
         definition = definitions.get((crate, name), "")
         row = quoted(definition)[:1]

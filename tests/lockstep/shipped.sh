@@ -11,7 +11,7 @@ if [ "$machine" = x86_64 ]; then
     echo "this machine is x86-64, so that everything was linked with what the kit writes"
     exit 0
 fi
-tools=$(dirname "$(dirname "$(rt doc)")")/on/$machine/toolchain
+tools=$(dirname "$(rt doc)")/on/$machine/toolchain
 lib=$tools/lib
 if nm -u "$out/she-x86-64.o" "$out/garage-x86-64.o" | sed -n 's/^ *U //p' |
     grep -v -x -e memcpy -e memset -e memmove -e memcmp -e bcmp; then

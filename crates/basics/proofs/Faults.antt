@@ -1,5 +1,5 @@
 -- The first fault of a list of checks: where there is none, where it lies in a front part, and which numbers it can be.
--- `no-fault` takes an answer of 0 apart row by row; `found_first` says that what a front part of a table finds is the answer.
+-- `no_fault` takes an answer of 0 apart row by row; `found_first` says that what a front part of a table finds is the answer.
 -- A function that answers is proved check by check, each way out by the tests before it.
 -- Assumes nothing.
 use mathlib.Core.Path.{◌≡◌, refl}

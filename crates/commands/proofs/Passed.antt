@@ -1,5 +1,5 @@
--- A routine under a key once its lengths are right, and the two ways of a command that uses a slot. `use-refused` and
--- `use-done` close all commands that use a slot and write one buffer.
+-- A routine under a key once its lengths are right, and the two ways of a command that uses a slot. `use_refused` and
+-- `use_done` close all commands that use a slot and write one buffer.
 -- Assumes nothing.
 use mathlib.Core.Path.{◌≡◌, sym, ap, ◌∙◌}
 use mathlib.Core.Bool.{Bool, true}

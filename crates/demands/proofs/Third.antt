@@ -1,6 +1,6 @@
 -- The third demand's first sentence holds of the device: a load succeeds exactly when there is something that builds its
 -- messages and the rules hold, and then it leaves that. From an answer of 0 the two parts of the checks give the rules, and
--- `opens` the parts that build the messages; from such parts `handed-back` says what is opened, and no check finds fault.
+-- `opens` the parts that build the messages; from such parts `handed_back` says what is opened, and no check finds fault.
 -- `puts_one` says what changes.
 -- Assumes nothing.
 use mathlib.Core.Path.{◌≡◌, refl, sym, ap, ◌∙◌, subst}

@@ -1,5 +1,5 @@
 -- The two outcomes of a call, from the answer that it found: refused, and done; and the checks that all calls begin with.
--- `is-refused` and `is-done`, of any account, close the proof of every command.
+-- `is_refused` and `is_done`, of any account, close the proof of every command.
 -- Assumes nothing.
 use mathlib.Core.Path.{◌≡◌, refl, sym, ap, ap₂, ◌∙◌, subst}
 use mathlib.Core.Bool.{Bool, true, false, not, cond}

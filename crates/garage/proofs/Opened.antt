@@ -1,4 +1,4 @@
--- What an open book tells of its lines: the counter, what is held, and what waits. `open-line` has the facts of one line.
+-- What an open book tells of its lines: the counter, what is held, and what waits. `open_line` has the facts of one line.
 -- Assumes nothing.
 use mathlib.Core.Path.{◌≡◌, refl, sym}
 use mathlib.Core.Bool.{Bool, true, false, not, cond, ◌&&◌, ◌||◌, false≢true}

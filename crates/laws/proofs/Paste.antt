@@ -1,4 +1,4 @@
--- A loop that pastes into a list, and what then lies at each index. Of parts that are put one after the other, `part-put`
+-- A loop that pastes into a list, and what then lies at each index. Of parts that are put one after the other, `part_put`
 -- says that what was put before, and this part, are the first n bytes.
 -- Assumes nothing.
 use Prim.Native.Nat.{ℕ, ◌+◌, ◌≤◌, ◌<◌}

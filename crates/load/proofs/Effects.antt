@@ -1,4 +1,4 @@
--- What LOAD_KEY does to a made device. That flags as kept are kept again is `and-twice` of `laws/proofs/And.antt`.
+-- What LOAD_KEY does to a made device. That flags as kept are kept again is `and_twice` of `laws/proofs/And.antt`.
 -- Assumes nothing.
 use mathlib.Core.Path.{◌≡◌, refl, sym, ap, ap₂, ◌∙◌, subst}
 use mathlib.Core.Bool.{Bool, true, false, not, cond, ◌||◌, or-true}

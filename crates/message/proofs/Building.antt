@@ -1,6 +1,6 @@
 -- Building is one-to-one, and opening undoes it: M3 is right and the filler is zero exactly where some counter, flags and key
--- build these very messages, and then they are those handed back. Deciphering undoes enciphering both ways (`cbc-deciphers`,
--- `cbc-enciphers`), so M2 and its clear text determine each other; with the first block's laws that is `opens-exactly`, and
+-- build these very messages, and then they are those handed back. Deciphering undoes enciphering both ways (`cbc_deciphers`,
+-- `cbc_enciphers`), so M2 and its clear text determine each other; with the first block's laws that is `opens_exactly`, and
 -- that building is one-to-one.
 -- Assumes nothing.
 use mathlib.Core.Path.{◌≡◌, refl, sym, ap, ap₂, ◌∙◌, subst}
@@ -192,7 +192,7 @@ module _ (n : ℕ) (few : n ≤ 100) (auth_key one two three : List ℕ) (hs : B
       let same = sym (handed_back c f key h b) ∙ handed_back c' f' key' h' b' in
       (ap (λ (o : Opened). o.counter) same, ap (λ (o : Opened). o.flags) same, ap (λ (o : Opened). o.key) same)
 
--- ---- building is one-to-one: M1 determines whom it names, and under one auth_key M2 determines what it carries
+-- ---- building is one-to-one: M1 determines whom it names, and under one key of the authority M2 determines what it carries
 m1_determines : (uid uid' : List ℕ) (t a t' a' : ℕ) → length uid ≡ 15 → length uid' ≡ 15 → a < 16 → a' < 16 → m1 uid t a ≡ m1 uid' t' a'
     → (uid ≡ uid') × (t ≡ t') × (a ≡ a')
 m1_determines uid uid' t a t' a' long long' small small' e = (
