@@ -5,8 +5,7 @@ Tries the wrong programs of these crates, or of all, those of the gate among the
 tests/wrong/edits.py. With --gate, only the twins of those that the gate itself tries.
 
 Those of a crate are tried one after the other in a copy of the repository, over what is already proved there of the unchanged
-crate, so that only what an edit changes is checked again. The proofs of the routines that take the record in place are written
-anew from the edited source, by the program that wrote them. Writes for each what the prover objects to, and how many came out as
+crate, so that only what an edit changes is checked again. Writes for each what the prover objects to, and how many came out as
 they should not. The status is 0 only for none.
 """
 import collections
@@ -21,13 +20,14 @@ import time
 from edits import ROOT, all_edits
 
 WORK = ROOT / "target" / "shams"
-# what the prover says where a name, a step of the walk or a part of a proof is not there, or a line cannot be read, so that it has not
-# come to any fact. The facts of a function are declarations of their own, under their names: what is left to its `-spec` is to list
-# them, its `ensures` are only stated, and what is not in a declaration is not about any
-BY_NAME = re.compile(r"is not in scope|that can be named from here|has no field|already a name|is applied to an argument"
-                     r"|^`(?:\S+-spec|ensures\S*|requires\S*)`: |^(?!`|expected `\S+-spec` in )")
-# and where something that it needs was refused before
-FOLLOWS = re.compile(r"was not admitted|which is not proved")
+# a line in which the prover objects: an error, mostly with its place before it, or that a function has no proof
+OBJECTION = re.compile(r"(?:\S+:\d+:\d+: )?error(\[[\w-]+\])?: |fn \S+: no proof: ")
+# It has come to a fact only where it refuses the proof of a goal or a theorem, under its name, or finds none for a goal,
+FACT = re.compile(r"`[^`]+`: |expected answers in \S+; `search` did not prove `")
+# and not for a name, or a step of the walk or a part of a proof, that is not there
+BY_NAME = re.compile(r"is not in scope|can be named from here|has no field|has no `|already a name|is applied to an argument")
+# And some of it only says that something that it needs was refused before.
+FOLLOWS = re.compile(r"was (?:not admitted|rejected)|which (?:is|are) not proved|the borrow checker's part in its proof is not made yet: a call of")
 
 
 def run(folder, *words):
@@ -43,33 +43,46 @@ def restore(copy, crate):
 
 
 def prepared(crate):
-    """a copy of the repository; what is proved is only linked, as nothing writes to it"""
+    """a copy of the repository, without what was made of it"""
     copy = WORK / crate
     shutil.rmtree(copy, ignore_errors=True)
-    for part in ("crates", "tools"):
-        shutil.copytree(ROOT / part, copy / part)
-    shutil.copy(ROOT / "crates.txt", copy)
-    (copy / "target").mkdir()
-    for part in ("rlib", "stamp"):
-        (copy / "target" / part).symlink_to(ROOT / "target" / part)
+    shutil.copytree(ROOT / "crates", copy / "crates", ignore=shutil.ignore_patterns("out"))
+    for file in ("crates.txt", "HANDLES"):
+        if (ROOT / file).is_file():
+            shutil.copy(ROOT / file, copy)
     return copy
 
 
+def verdict(said):
+    """the last line of a check of its crate; those of the libraries below it come first"""
+    lines = [line for line in said.splitlines() if line.startswith("logic=")]
+    return lines[-1].split()[0] if lines else ""
+
+
+def is_for_a_fact(objection):
+    return bool(FACT.match(objection)) and not BY_NAME.search(objection)
+
+
 def objections(said):
-    """what the prover does not accept, without what only follows from that; what is left at the end of a function first"""
-    lines = [line for line in said.splitlines() if (" error: " in line or "no proof: " in line) and not FOLLOWS.search(line)]
-    lines = [re.sub(r".*?(error: |no proof: )", "", line, count=1) for line in lines]
-    return sorted(lines, key=lambda line: not line.startswith("`returns"))
+    """what the prover does not accept, without what only follows from that: first what is for no fact, then what is left at the end
+    of a function"""
+    found = []
+    for line in said.splitlines():
+        objection = OBJECTION.match(line)
+        if objection and not FOLLOWS.search(line):
+            found.append((objection[1] or "") + line[objection.end():])
+    return sorted(found, key=lambda line: (is_for_a_fact(line), not re.search(r"^`returns|did not prove `returns", line)))
 
 
 def trouble(edit, is_twin, prover):
     """how the program came out as it should not, if it did"""
+    said = verdict(prover.stdout)
     if is_twin:
-        return "" if prover.returncode == 0 and "logic=proved" in prover.stdout else "NOT ACCEPTED"
-    if prover.returncode != 1 or "logic=not-proved" not in prover.stdout:
+        return "" if prover.returncode == 0 and said == "logic=proved" else "NOT ACCEPTED"
+    if prover.returncode != 1 or said == "logic=proved":
         return f"NOT REFUSED, status {prover.returncode}"
     found = objections(prover.stdout)
-    if not found or any(BY_NAME.search(line) for line in found):
+    if not found or said != "logic=not-proved" or not all(map(is_for_a_fact, found)):
         return "REFUSED FOR A NAME"
     unproved = [name for name in edit.helpers() if f"fn {edit.crate}::{name}: proved" not in prover.stdout]
     return f"REFUSED FOR ITS HELPER {unproved[0]}" if unproved else ""
@@ -78,23 +91,23 @@ def trouble(edit, is_twin, prover):
 def tried(copy, edit, is_twin):
     """tries a program, says how it came out, and gives whether that is as it should not"""
     began = time.time()
+    folder = copy / "crates" / edit.crate
     for file, text in edit.files(ROOT / "crates" / edit.crate, is_twin).items():
-        (copy / "crates" / edit.crate / file).write_text(text)
-    run(copy, sys.executable, "tools/in_place.py").check_returncode()
-    prover = run(copy, "rt", "dev", edit.crate)
+        (folder / file).write_text(text)
+    prover = run(folder, "rt", "check")
     restore(copy, edit.crate)
     fault = trouble(edit, is_twin, prover)
     said = "".join(objections(prover.stdout)[:1])[:240]
-    verdict = fault or ("accepted" if is_twin else "refused")
+    came_out = fault or ("accepted" if is_twin else "refused")
     took = f"{time.time() - began:.0f} s"
-    print(f"{edit}{', twin' * is_twin}: {verdict} ({took}) {said}".rstrip(), flush=True)
+    print(f"{edit}{', twin' * is_twin}: {came_out} ({took}) {said}".rstrip(), flush=True)
     return bool(fault)
 
 
 def tried_all(crate, jobs):
     """the edits of a crate: how many came out as they should not"""
     copy = prepared(crate)
-    unchanged = run(copy, "rt", "dev", crate)
+    unchanged = run(copy / "crates" / crate, "rt", "check")
     if unchanged.returncode:
         print(f"{crate}: not proved as it is\n{unchanged.stdout}", flush=True)
         return len(jobs)
@@ -125,8 +138,10 @@ def main():
     jobs = chosen(sys.argv[1:])
     WORK.mkdir(parents=True, exist_ok=True)
     log = WORK / "check.log"
-    if subprocess.run(["sh", "tools/watch.sh", "shams: the crates as they are", log, "rt", "check", *jobs], cwd=ROOT).returncode:
-        sys.exit(log.read_text())
+    for crate in jobs:
+        words = ["sh", ROOT / "tools" / "watch.sh", f"shams: {crate} as it is", log, "rt", "check"]
+        if subprocess.run(words, cwd=ROOT / "crates" / crate).returncode:
+            sys.exit(log.read_text())
     longest_first = sorted(jobs, key=lambda crate: -len(jobs[crate]))
     with concurrent.futures.ThreadPoolExecutor(int(os.environ.get("RT_JOBS") or min(os.cpu_count() or 1, 4))) as pool:
         wrong = sum(pool.map(lambda crate: tried_all(crate, jobs[crate]), longest_first))
