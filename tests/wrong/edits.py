@@ -15,6 +15,9 @@ The twin of an edit is the same edit with a right body, which the prover must ac
 a helper that promises too little or a line of a proof that no longer fits. An edit that adds a function or changes a proof
 has one. (`rt` passes over `of:`, `why:` and `right:`.)
 
+A proof answers goals by their names, and a goal is named after the test or the call that it is about. So an edit leaves the tests
+and calls of a function as they are named, or changes the names in the proof too.
+
 Of the routines that take a record in place, two wrong programs each are made by tools/in_place.py and stand in no file.
 
 A fault of tests/wrong/faults.txt is a name, a file of the second program, tests/lockstep/second/, and a text that stands there exactly
@@ -89,6 +92,8 @@ class Edit:
         """what the crate in a folder has, edited: file -> its text"""
         texts = {}
         for file, old, new, right in self.changes:
+            if not (folder / file).is_file():
+                raise Stale(f"{self}: there is no file {file}")
             text = texts.get(file) or (folder / file).read_text()
             texts[file] = replaced(text, old, right if is_twin and right is not None else new, f"{self}, {file}")
         return texts

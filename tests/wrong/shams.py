@@ -21,13 +21,16 @@ from edits import ROOT, all_edits
 
 WORK = ROOT / "target" / "shams"
 # a line in which the prover objects: an error, mostly with its place before it, or that a function has no proof
-OBJECTION = re.compile(r"(?:\S+:\d+:\d+: )?error(\[[\w-]+\])?: |fn \S+: no proof: ")
-# It has come to a fact only where it refuses the proof of a goal or a theorem, under its name, or finds none for a goal,
-FACT = re.compile(r"`[^`]+`: |expected answers in \S+; `search` did not prove `")
-# and not for a name, or a step of the walk or a part of a proof, that is not there
+OBJECTION = re.compile(r"(\S+:\d+:\d+: )?error(\[[\w-]+\])?: |fn \S+: no proof: ")
+# It has come to a fact only where it refuses a proof, of a goal or a theorem and under its name, or finds none for a goal; and not in
+# the text of a contract, a definition or an invariant,
+FACT = re.compile(r"(?:\./)?proofs/(?!\S*Invariants\.antt)\S+ error: `[^`]+`: "
+                  r"|fn \S+: no proof: expected answers in \S+; `search` did not prove `")
+# nor for a name, or a step of the walk or a part of a proof, that is not there.
 BY_NAME = re.compile(r"is not in scope|can be named from here|has no field|has no `|already a name|is applied to an argument")
 # And some of it only says that something that it needs was refused before.
-FOLLOWS = re.compile(r"was (?:not admitted|rejected)|which (?:is|are) not proved|the borrow checker's part in its proof is not made yet: a call of")
+FOLLOWS = re.compile(r"was (?:not admitted|rejected)|which (?:is|are) not proved"
+                     r"|the borrow checker's part in its proof is not made yet: a call of")
 
 
 def run(folder, *words):
@@ -66,12 +69,8 @@ def is_for_a_fact(objection):
 def objections(said):
     """what the prover does not accept, without what only follows from that: first what is for no fact, then what is left at the end
     of a function"""
-    found = []
-    for line in said.splitlines():
-        objection = OBJECTION.match(line)
-        if objection and not FOLLOWS.search(line):
-            found.append((objection[1] or "") + line[objection.end():])
-    return sorted(found, key=lambda line: (is_for_a_fact(line), not re.search(r"^`returns|did not prove `returns", line)))
+    found = [line for line in said.splitlines() if OBJECTION.match(line) and not FOLLOWS.search(line)]
+    return sorted(found, key=lambda line: (is_for_a_fact(line), not re.search(r"(?:error:|did not prove) `returns", line)))
 
 
 def trouble(edit, is_twin, prover):
