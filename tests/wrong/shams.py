@@ -11,15 +11,16 @@ they should not. The status is 0 only for none.
 import collections
 import concurrent.futures
 import os
+import pathlib
 import re
 import shutil
 import subprocess
 import sys
+import tempfile
 import time
 
 from edits import ROOT, all_edits
 
-WORK = ROOT / "target" / "shams"
 # a line in which the prover objects: an error, mostly with its place before it, or that a function has no proof
 OBJECTION = re.compile(r"(\S+:\d+:\d+: )?error(\[[\w-]+\])?: |fn \S+: no proof: ")
 # It has come to a fact only where it refuses a proof, of a goal or a theorem and under its name, or finds none for a goal; and not in
@@ -45,15 +46,12 @@ def restore(copy, crate):
             shutil.copytree(ROOT / "crates" / crate / part, copy / "crates" / crate / part)
 
 
-def prepared(crate):
+def prepared(copy):
     """a copy of the repository, without what was made of it"""
-    copy = WORK / crate
-    shutil.rmtree(copy, ignore_errors=True)
     shutil.copytree(ROOT / "crates", copy / "crates", ignore=shutil.ignore_patterns("out"))
     for file in ("crates.txt", "HANDLES"):
         if (ROOT / file).is_file():
             shutil.copy(ROOT / file, copy)
-    return copy
 
 
 def verdict(said):
@@ -103,9 +101,9 @@ def tried(copy, edit, is_twin):
     return bool(fault)
 
 
-def tried_all(crate, jobs):
-    """the edits of a crate: how many came out as they should not"""
-    copy = prepared(crate)
+def tried_all(copy, crate, jobs):
+    """the edits of a crate, in a new folder: how many came out as they should not"""
+    prepared(copy)
     unchanged = run(copy / "crates" / crate, "rt", "check")
     if unchanged.returncode:
         print(f"{crate}: not proved as it is\n{unchanged.stdout}", flush=True)
@@ -135,15 +133,21 @@ def chosen(words):
 
 def main():
     jobs = chosen(sys.argv[1:])
-    WORK.mkdir(parents=True, exist_ok=True)
-    log = WORK / "check.log"
+    # (not below the repository, where `rt` takes no other copy of a crate)
+    with tempfile.TemporaryDirectory(prefix="shams-") as folder:
+        return tried_in(pathlib.Path(folder), jobs)
+
+
+def tried_in(work, jobs):
+    """tries them all in a folder, and gives the status"""
+    log = work / "check.log"
     for crate in jobs:
         words = ["sh", ROOT / "tools" / "watch.sh", f"shams: {crate} as it is", log, "rt", "check"]
         if subprocess.run(words, cwd=ROOT / "crates" / crate).returncode:
             sys.exit(log.read_text())
     longest_first = sorted(jobs, key=lambda crate: -len(jobs[crate]))
     with concurrent.futures.ThreadPoolExecutor(int(os.environ.get("RT_JOBS") or min(os.cpu_count() or 1, 4))) as pool:
-        wrong = sum(pool.map(lambda crate: tried_all(crate, jobs[crate]), longest_first))
+        wrong = sum(pool.map(lambda crate: tried_all(work / crate, crate, jobs[crate]), longest_first))
     twins = sum(is_twin for tries in jobs.values() for _, is_twin in tries)
     count = sum(map(len, jobs.values())) - twins
     print(f"shams: {count} wrong programs and {twins} twins, {wrong} that came out as they should not")
