@@ -31,13 +31,19 @@ def check(fine, fault):
 
 
 def public_routines():
-    """(crate, name) -> its signature and contract, which stand before the body"""
+    """(crate, name) -> its signature and contract, which stand before the body; a method's name has its type's before it, and what a
+    conversion gives is its contract"""
     found = {}
+    item = (r'^impl(?:<[^>]*>)? (?:[\w<>]+ for )?(?P<type>\w+)|^(?P<end>\})|^ *pub (?:extern "C" )?fn (?P<name>\w+)'
+            r"|^ *ghost (?P<conversion>from)_gives")
     for source in sorted(CRATES.glob("*/src/**/*.rt")):
-        text = source.read_text()
-        for start in re.finditer(r'^pub (?:extern "C" )?fn (\w+)', text, re.M):
-            head = text[start.end():]
-            found[source.relative_to(CRATES).parts[0], start[1]] = head[:head.index("\n{")]
+        text, of = source.read_text(), ""
+        for start in re.finditer(item, text, re.M):
+            name = start["name"] or start["conversion"]
+            if name:
+                found[source.relative_to(CRATES).parts[0], of + name] = re.split(r"\n *\{| \{\n", text[start.end():], maxsplit=1)[0]
+            else:
+                of = start["type"] + "::" if start["type"] else ""
     return found
 
 
@@ -84,7 +90,9 @@ def places(cell, what):
 
 def law_of(head):
     """the law that two outcomes which meet the promise are equal, by the shape of the promise"""
-    for shape in ("outcome", "messages", "proof"):
+    if "{ opened_as " in head:
+        return "opened_settled"
+    for shape in ("outcome", "judged", "messages", "proof"):
         if f"{{ {shape} " in head:
             return f"{shape}_settled"
     if ".answer }" in head and ".output }" in head:
@@ -100,8 +108,8 @@ def told(edit, crate):
 
 def routine_of(cell):
     """the crate and the name of the routine that a row is about"""
-    crate, _, name = quoted(cell)[0].partition("(")[0].rpartition("::")
-    return crate or "bench", name
+    crate, _, name = quoted(cell)[0].partition("(")[0].partition("::")
+    return (crate, name) if name else ("bench", crate)
 
 
 def with_wrong_programs(page, edits):
@@ -138,14 +146,14 @@ def hold_promises(routines, is_writing):
         check(count > 1, f"{crate}::{name}: fewer than two wrong programs that its promise excludes")
     for edit in edits:
         for of in edit.of:
-            known = (CRATES / of).is_file() if of.endswith(".antt") else tuple(of.split("::")) in routines
+            known = (CRATES / of).is_file() if of.endswith(".antt") else tuple(of.split("::", 1)) in routines
             check(known, f"the wrong program {edit} is of {of}, which is not there")
     for (crate, name), head in routines.items():
         check((crate, name) in definitions, f"{crate}::{name} has no row in PROMISES.md")
         check("requires" not in head, f"{crate}::{name} has a precondition")
         promised = re.findall(r"≡ (?:perform )?\(?([^\s()]+)", head)
         check(promised, f"{crate}::{name} promises no equation")
-        for lent in re.findall(r"(\w+): &mut ", head):
+        for lent in re.findall(r"(\w+): &mut ", head) + re.findall(r"&mut (self)", head):
             check(re.search(rf"(?<![\w.]){lent}\.new\b", head), f"{crate}::{name} promises nothing of what {lent} holds at exit")
         check(laws.get((crate, name)) == [law_of(head)], f"{crate}::{name} is settled by {law_of(head)}, and its row names another law")
         definition = definitions.get((crate, name), "")
@@ -198,10 +206,11 @@ def contract_of(definition, parameters, is_in_place, returned):
     through = [name for name, kind in parameters.items() if kind == "&mut u8"]
     given = [name if kind[0] != "&" else f"{name}.old" if kind.startswith("&mut") else f"{name}.now" for name, kind in parameters.items()
              if name != "device" and name not in through]
-    value = {"Verdict": "result.verdict", "Status": "result.status"}.get(returned, "0")
+    value = {"bool": "(bool_byte (result_unwrap_or result false))", "u8": "(result_unwrap_or result 0)"}.get(returned, "0")
     if through:
         value = f"{through[0]}.new"
-    answer, before = ("result device.new", "device.old") if is_in_place else ("result.answer result.device", "device")
+    after = "(result_unwrap_or result device)" if returned == "Device" else "device"
+    answer, before = ("result device.new", "device.old") if is_in_place else (f"(answer_of result) {after}", "device")
     account = f"({' '.join([definition, *given])})" if given or " " in definition else definition
     return f"outcome {answer} {value} {listed([f'{name}.new' for name in lent])} ≡ perform {account} {before}"
 
@@ -231,8 +240,9 @@ def hold_calls(routines):
             taken = [n for n, kind in parameters.items() if n != "device" and kind != "&mut u8"]
             # the type calls the room for M1 to M5 b1 to b5
             check(taken == [re.sub(r"^b(?=\d)", "m", n) for n in declared[call]], f"{crate}::{routine} takes other things than {call}")
-            promise = re.findall(r"ensures \{ (.*) \}", head)
-            returned = re.search(r"\) -> (\w+)", head)[1]
+            promise = [" ".join(clause.split()) for clause in re.findall(r"ensures \{ (.*?) \}$", head, re.S | re.M)]
+            by_value = re.search(r"\) -> Result<(\S+), Refusal>", head)
+            returned = by_value[1] if by_value else None
             wanted = contract_of(definition + " flag_count" * counted, parameters, crate == "she", returned)
             check(promise == [wanted], f"{crate}::{routine} promises {promise}, and by its call {wanted}")
     for crate, names in named.items():

@@ -107,11 +107,11 @@ STATIONS = {
     "C": ["2 the firmware|lends M1 to M3", "1 the sender|writes M1 to M3", "7 the sender|compares both",
           "the firmware|answer, M4, M5"],
     "she": ["`she_load_key`|copies record", "", "", "`she_load_key`|stores record"],
-    "load": ["3 `guard_answer`|the first checks", "4 `authority_key`|its key, or FF", "5 `opened_answer`|the last checks",
-             "6 `leave_proof`|`loaded`"],
+    "load": ["3 `check_guard`|the first checks", "4 `authority_key`|its key, or FF", "5 `check_opened`|the last checks",
+             "6 `store`|counter, flags"],
     "device": ["`is_made`|flags and lock", "`key_at`|the key, read", "`counter_at`|UID, flags too", "`put_slot`|slot anew"],
     "message": ["`is_allowed`|the pair", "`open`|M3, then M2", "", "`write_proof`|M4 and M5"],
-    "modes": ["", "`kdf`, `cmac`|`cbc_decrypt`", "", "`kdf`, `cmac`"],
+    "modes": ["", "`text_mac`|`cbc_decrypt`", "", "`derive`|`text_mac`"],
     "aes": ["", "`encrypt_with`|`decrypt_with`", "", "`encrypt_with`"],
     "field": ["", "`look_up`|`double`", "", "`look_up`|`double`"]}
 # The way from one to the next, by column and row.

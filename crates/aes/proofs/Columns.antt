@@ -11,13 +11,9 @@ use Rattle.laws.proofs.Xor.{sums, xor_byte}
 use Rattle.field.specs.Field.{xtime, mul}
 use Rattle.field.proofs.Laws.{linear, mul_byte}
 use Rattle.aes.specs.State.{byte, Bytes}
-use Rattle.aes.specs.Engine.{four_columns}
+use Rattle.aes.specs.Engine.{on_column, four_columns}
 use Rattle.aes.specs.Steps.{matrix, columns, mix_column, inv_mix_column}
 use Rattle.aes.proofs.Bytes.{four_bytes}
-
--- a mixing of the column that a list of four bytes is
-abbrev pub on_column : (ℕ → ℕ → ℕ → ℕ → List ℕ) → List ℕ → List ℕ
-on_column f l = f (byte l 0) (byte l 1) (byte l 2) (byte l 3)
 
 -- the first byte of the column that a mixing gives; each other is the first on the column turned
 abbrev first : (ℕ → ℕ → ℕ → ℕ → List ℕ) → ℕ → ℕ → ℕ → ℕ → ℕ

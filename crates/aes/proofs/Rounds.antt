@@ -1,10 +1,9 @@
 -- The S-box read from a table, a turn of the loops over the rounds, there and back, and the cipher by its schedule. The loops
 -- keep "rounds 1 to r are done" on the way there, and "rounds r to 1 are left" on the way back.
 -- Assumes nothing.
-use mathlib.Core.Path.{◌≡◌, refl, sym, ap, ◌∙◌}
+use mathlib.Core.Path.{◌≡◌, refl, sym, ap, ap₂, ◌∙◌}
 use mathlib.Core.List.{List}
-use Prim.Native.Nat.{ℕ, suc, ◌+◌, ◌-◌, ◌<◌}
-use native.Mathlib.Numerals.{add-one}
+use Prim.Native.Nat.{ℕ, suc, ◌+◌, ◌-◌, ◌≤◌, ◌<◌}
 use native.Mathlib.Omega.{arith}
 use Rattle.laws.proofs.Tabulate.{tabulate_same}
 use Rattle.field.specs.Sbox.{table}
@@ -19,10 +18,13 @@ pub by_table : (f : ℕ → ℕ) (boxes s : List ℕ) → boxes ≡ table f → 
 unfolding substitute
 by_table f boxes s whole h = tabulate_same 16 _ _ (λ k l. looked_up f boxes (byte s k) _ whole (h k) refl)
 
--- r rounds are done, and one more
-pub one_more : (w s₀ s t : List ℕ) (r : ℕ) → s ≡ rounds r w s₀ → t ≡ round w (r + 1) s → t ≡ rounds (r + 1) w s₀
+-- the rounds below r are done, and round r
+pub one_more : (w s₀ s t : List ℕ) (r : ℕ) → 1 ≤ r → s ≡ rounds (r - 1) w s₀ → t ≡ round w r s → t ≡ rounds (r + 1 - 1) w s₀
 unfolding rounds
-one_more w s₀ s t r done e = rw add-one (e ∙ rw (add-one, done))
+one_more w s₀ s t r h done e =
+    let this : r ≡ suc (r - 1) = omega arith in
+    let next : r + 1 - 1 ≡ suc (r - 1) = omega arith in
+    e ∙ ap₂ (λ (k : ℕ) (x : List ℕ). round w k x) this done ∙ sym (ap (λ (k : ℕ). rounds k w s₀) next)
 
 -- r rounds are left, and one less
 pub one_less : (w s t g : List ℕ) (r : ℕ) → 0 < r → inv_rounds r w s ≡ g → t ≡ inv_round w r s → inv_rounds (r - 1) w t ≡ g
@@ -39,9 +41,3 @@ ciphers key w made = ap cipher_with made
 pub inv_ciphers : (key w : List ℕ) → w ≡ key_expansion key → inv_cipher_with w ≡ inv_cipher key
 unfolding inv_cipher
 inv_ciphers key w made = ap inv_cipher_with made
-
-pub scheduled : (key w block r : List ℕ) → w ≡ key_expansion key → r ≡ cipher_with w block → r ≡ cipher key block
-scheduled key w block r made e = e ∙ ap (λ (f : List ℕ → List ℕ). f block) (ciphers key w made)
-
-pub inv_scheduled : (key w block r : List ℕ) → w ≡ key_expansion key → r ≡ inv_cipher_with w block → r ≡ inv_cipher key block
-inv_scheduled key w block r made e = e ∙ ap (λ (f : List ℕ → List ℕ). f block) (inv_ciphers key w made)

@@ -8,9 +8,6 @@ use lib.Dec.{lit<}
 use lib.ListN.{length, take}
 use lib.Seq.{get_or-take, paste, length-paste, take_all, take-paste}
 use Rattle.laws.specs.Xor.{◌xor◌}
-use Rattle.laws.specs.Tabulate.{tabulate}
-use Rattle.laws.proofs.Paste.{paste_at}
-use Rattle.laws.proofs.Tabulate.{tabulate_own}
 use Rattle.laws.proofs.Xor.{xor_byte}
 use Rattle.field.proofs.Laws.{xtime_byte, sbox_byte}
 use Rattle.aes.specs.State.{byte, Bytes}
@@ -104,19 +101,6 @@ more w x g i long low high e inv =
     ∙ take-paste w (4 * i) x 4 (omega arith) (omega arith)
     ∙ ap (λ (l : List ℕ). take (4 * i) w ++ l) (take_all 4 x (omega arith) ∙ e ∙ sym (made_next w i low)))
     ∙ subst (λ (n : ℕ). more_words n i (take (4 * i) w) ≡ g) left inv
-
--- the word that was pasted is the last one now
-pub newest : (w x : List ℕ) (i : ℕ) → length w ≡ 176 → i < 44 → x ≡ next_word w i → x ≡ word (paste w (4 * i) x 4) (i + 1 - 1)
-unfolding next_word tabulate
-newest w x i long high e =
-    let four : length x ≡ 4 = ap length e in
-    let at : i + 1 - 1 ≡ i = omega arith in
-    let start : 4 * i + 0 ≡ 4 * i = omega arith in
-    let pasted = paste_at w x (4 * i) 4 (omega arith) (omega arith) in
-    let zeroth : byte (paste w (4 * i) x 4) (4 * i) ≡ byte x 0 = sym (ap (byte (paste w (4 * i) x 4)) start) ∙ pasted 0 (omega arith) in
-    sym (tabulate_own 4 x four)
-    ∙ sym (ap (word (paste w (4 * i) x 4)) at
-    ∙ (λ k. zeroth k ∷ pasted 1 (omega arith) k ∷ pasted 2 (omega arith) k ∷ pasted 3 (omega arith) k ∷ []))
 
 pub made : (w g : List ℕ) (i : ℕ) → length w ≡ 176 → i ≡ 44 → more_words (44 - i) i (take (4 * i) w) ≡ g → w ≡ g
 unfolding more_words

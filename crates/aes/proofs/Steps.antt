@@ -14,7 +14,8 @@ use Rattle.field.proofs.Laws.{sbox_byte, inv_sbox_byte, sbox_undo, sbox_redo}
 use Rattle.aes.specs.State.{byte, state, Bytes, Block}
 use Rattle.aes.specs.Steps.{substitute, sub_bytes, inv_sub_bytes, move_rows, shift_rows, inv_shift_rows, matrix, columns, mix_columns, inv_mix_columns, add_round_key}
 use Rattle.aes.proofs.Bytes.{append_bytes, state_block}
-use Rattle.aes.proofs.Columns.{on_column, column_undo, column_redo, matrix_bytes}
+use Rattle.aes.specs.Engine.{on_column}
+use Rattle.aes.proofs.Columns.{column_undo, column_redo, matrix_bytes}
 
 -- f keeps blocks blocks, and g undoes it
 pub record Undone (f g : List ℕ → List ℕ) : Type 0 where

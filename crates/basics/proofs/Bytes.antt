@@ -1,19 +1,19 @@
 -- Texts that are a block or a UID, read whole; and a text with a block put anew: that block is what was put, and every other is as
 -- it was.
 -- Assumes nothing.
-use mathlib.Core.Path.{◌≡◌, refl, sym, ap, ◌∙◌}
+use mathlib.Core.Path.{◌≡◌, refl, sym, ap, ap₂, ◌∙◌}
 use mathlib.Core.Bool.{Bool, true, false, cond}
-use mathlib.Core.List.{List, [], ◌∷◌, ◌++◌}
+use mathlib.Core.List.{List, ◌++◌, append_assoc}
 use mathlib.Core.Logic.{◌⊎◌, inl, inr, ⊎_elim}
 use Prim.Native.Nat.{ℕ, ◌+◌, ◌-◌, ◌*◌, ◌≤◌, ◌<◌}
 use native.Mathlib.Nat.{zero-add, eq-or-lt_of_le}
 use native.Mathlib.Omega.{arith}
 use borrow.Author.Tests.{le-leb, leb-true, leb-false}
 use lib.Dec.{leb}
-use lib.ListN.{length, take, drop, set}
-use lib.Seq.{paste, length-paste, set_at, get_or-take, length-take-le, take_all}
+use lib.ListN.{length, take, drop}
+use lib.Seq.{drop-drop, paste, length-paste, get_or-take, length-take-le, take_all}
 use Rattle.laws.proofs.Paste.{paste_before, paste_at, paste_after}
-use Rattle.laws.proofs.Tabulate.{length_tabulate, tabulate_same, tabulate_own, tabulate_last}
+use Rattle.laws.proofs.Tabulate.{length_tabulate, tabulate_same, tabulate_own}
 use Rattle.aes.specs.State.{byte, Bytes}
 use Rattle.aes.proofs.Bytes.{append_bytes, take_bytes, drop_bytes}
 use Rattle.basics.specs.Bytes.{block_at, put_block, uid_from}
@@ -34,16 +34,14 @@ uid_front text enough =
 pub uid_whole : (text : List ℕ) → length text ≡ 15 → uid_from text ≡ text
 uid_whole text long = uid_front text (omega arith) ∙ take_all 15 text (omega arith)
 
--- a UID as a block, with a last byte put after it
-pub uid_block : (uid : List ℕ) (last : ℕ) → length uid ≡ 15 → set (block_at uid 0) 15 last ≡ uid ++ (last ∷ [])
-unfolding block_at
-uid_block uid last long =
-    let filled : ℕ → ℕ = λ i. byte uid (16 * 0 + i) in
-    let own = tabulate_same 15 filled (byte uid) (λ i h. ap (byte uid) (zero-add i)) ∙ tabulate_own 15 uid long in
-    ap (λ (block : List ℕ). set block 15 last) (tabulate_last 15 filled ∙ ap (λ (front : List ℕ). front ++ (filled 15 ∷ [])) own)
-    ∙ set_at uid (filled 15) [] last 15 long
+-- ---- a block put anew: n bytes are copied into their place, from a text that has no others
+pub copied : (d new s : List ℕ) (at n : ℕ) → length s ≡ n → new ≡ s
+    → take at d ++ (new ++ drop (at + n - at) (drop at d)) ≡ paste d at s n
+copied d new s at n long e =
+    let rest : drop (at + n - at) (drop at d) ≡ drop (at + n) d = drop-drop (at + n - at) at d ∙ ap (λ (k : ℕ). drop k d) (omega arith) in
+    ap₂ (λ (x y : List ℕ). take at d ++ (x ++ y)) (e ∙ sym (take_all n s (omega (arith, long)))) rest
+    ∙ sym (append_assoc (take at d) (take n s) (drop (at + n) d))
 
--- ---- a block put anew
 less_or_more : (a b : ℕ) → (a ≡ b → ⊥) → (a < b) ⊎ (b < a)
 less_or_more a b other = tests (leb b a) refl
   where

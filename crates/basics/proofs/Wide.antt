@@ -6,8 +6,10 @@ use mathlib.Core.Path.{◌≡◌, refl, sym, ap, ◌∙◌}
 use mathlib.Core.Bool.{Bool, true, false, cond}
 use Prim.Native.Nat.{ℕ, ◌≤◌, ◌<◌}
 use native.Mathlib.Omega.{arith}
-use borrow.Author.Tests.{le-leb, lt-leb, leb-false, eqb-true, eqb-false}
+use borrow.Author.Tests.{le-leb, lt-leb, leb-true, leb-false, eqb-true, eqb-false}
 use lib.Dec.{eqb, leb}
+use Rattle.std.specs.Prelude.{Result, Ok, Err}
+use Rattle.std.specs.Result.{OkIff, result_unwrap_or}
 use Rattle.basics.specs.Wide.{saturated}
 
 -- what is the same for the limit and for every number above it, is the same for a number and for it saturated
@@ -36,3 +38,13 @@ by_answer_lem {x = x} {y = y} answer done refused = tests (eqb answer 0) refl
     tests : (b : Bool) → eqb answer 0 ≡ b → x ≡ y
     tests true e = done (eqb-true answer 0 e)
     tests false e = refused (eqb-false answer 0 e)
+
+-- a number that is tried as a byte, and the largest byte where it is none
+pub narrowed : {E : Type 0} (n : ℕ) (r : Result ℕ E) → OkIff r (n < 256) n → result_unwrap_or r 255 ≡ saturated 255 n
+unfolding saturated
+narrowed n (Ok x) h = h.1 ∙ sym (fitting 255 n (omega (arith, h.0)))
+narrowed n (Err e) h = tests (leb n 255) refl
+  where
+    tests : (b : Bool) → leb n 255 ≡ b → 255 ≡ cond b n 255
+    tests true e = absurd (h (omega (arith, leb-true n 255 e)))
+    tests false e = refl

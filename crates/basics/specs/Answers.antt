@@ -1,7 +1,9 @@
 -- The numbers of the answers; an answer by its order: checks, each with the number that it answers where it finds fault; and a
 -- buffer after the answer. A number of the paper's table that nothing answers yet has no name here.
 -- Assumes nothing.
-use Rattle.std.specs.Prelude.{Bool, cond, List, [], ◌∷◌, ℕ, eqb}
+use Rattle.std.specs.Prelude.{Bool, cond, List, [], ◌∷◌, ℕ, eqb, Result, Ok, Err}
+use Rattle.basics.specs.declared.Refusal.{Refusal}
+use Rattle.basics.specs.declared.Refusal.TheVariants.{SequenceError, KeyNotAvailable, KeyInvalid, KeyEmpty, NoSecureBoot, KeyWriteProtected, KeyUpdateError, RngSeed, GeneralError}
 
 -- done
 abbrev pub no_error : ℕ
@@ -42,6 +44,23 @@ rng_seed = 8
 -- wrong length, not made
 abbrev pub general_error : ℕ
 general_error = 12
+
+-- the number of each refusal
+abbrev pub number_of : Refusal → ℕ
+number_of SequenceError = sequence_error
+number_of KeyNotAvailable = key_not_available
+number_of KeyInvalid = key_invalid
+number_of KeyEmpty = key_empty
+number_of NoSecureBoot = no_secure_boot
+number_of KeyWriteProtected = key_write_protected
+number_of KeyUpdateError = key_update_error
+number_of RngSeed = rng_seed
+number_of GeneralError = general_error
+
+-- the number of an answer: 0 where a call did what it was asked to
+abbrev pub answer_of : {A : Type 0} → Result A Refusal → ℕ
+answer_of (Ok x) = no_error
+answer_of (Err refusal) = number_of refusal
 
 -- the number of the first check that finds fault, and 0 where none does
 abbrev pub first_fault : List (Bool × ℕ) → ℕ

@@ -2,33 +2,78 @@
 // compared whatever their lengths are.
 #![tactic(auto)]
 
-ghost use Rattle.std.specs.Prelude.{◌≡◌};
+ghost use Rattle.std.specs.Prelude.{◌≡◌, ◌+◌, ◌<◌};
+ghost use Rattle.std.specs.Result.{result_unwrap_or};
 ghost use Rattle.laws.specs.Same.{same};
+ghost use Rattle.laws.specs.Tabulate.{tabulate};
 ghost use Rattle.aes.specs.State.{byte, Bytes};
+ghost use Rattle.basics.specs.Answers.{number_of, answer_of};
 ghost use Rattle.basics.specs.Bytes.{block_at, put_block, uid_from};
 ghost use Rattle.basics.specs.Wide.{saturated};
 
-// ---- numbers of the answers
+use std::array;
 
+// ---- answers
+
+// The answer of a call that did what it was asked to.
 pub const NO_ERROR: u8 = 0;
 
-pub const SEQUENCE_ERROR: u8 = 1;
+// Why a call is refused: the other answers of the paper's table. One that nothing answers yet is not among them.
+#[derive(Clone, Copy, Debug, PartialEq, Eq)]
+pub enum Refusal {
+    SequenceError,
+    KeyNotAvailable,
+    KeyInvalid,
+    KeyEmpty,
+    NoSecureBoot,
+    KeyWriteProtected,
+    KeyUpdateError,
+    RngSeed,
+    GeneralError,
+}
 
-pub const KEY_NOT_AVAILABLE: u8 = 2;
+impl Refusal {
+    // The number that the paper's table gives it.
+    pub fn number(self) -> u8
+        ensures { result ≡ number_of self }
+    {
+        match self {
+            Refusal::SequenceError => 1,
+            Refusal::KeyNotAvailable => 2,
+            Refusal::KeyInvalid => 3,
+            Refusal::KeyEmpty => 4,
+            Refusal::NoSecureBoot => 5,
+            Refusal::KeyWriteProtected => 6,
+            Refusal::KeyUpdateError => 7,
+            Refusal::RngSeed => 8,
+            Refusal::GeneralError => 12,
+        }
+    }
+}
 
-pub const KEY_INVALID: u8 = 3;
+// The number of an answer, as C has it.
+pub fn answer_of(reply: Result<(), Refusal>) -> u8
+    ensures { result ≡ answer_of reply }
+{
+    match reply {
+        Ok(()) => NO_ERROR,
+        Err(refusal) => refusal.number(),
+    }
+}
 
-pub const KEY_EMPTY: u8 = 4;
-
-pub const NO_SECURE_BOOT: u8 = 5;
-
-pub const KEY_WRITE_PROTECTED: u8 = 6;
-
-pub const KEY_UPDATE_ERROR: u8 = 7;
-
-pub const RNG_SEED: u8 = 8;
-
-pub const GENERAL_ERROR: u8 = 12;
+// Stores what a call hands back in the place of what it was asked about, and answers. A refusal leaves what stood there.
+pub fn store<T: Copy>(place: &mut T, reply: Result<T, Refusal>) -> u8
+    ensures value { result ≡ answer_of reply }
+    ensures place_after { place.new ≡ result_unwrap_or reply place.old }
+{
+    match reply {
+        Ok(new) => {
+            *place = new;
+            NO_ERROR
+        }
+        Err(reason) => reason.number(),
+    }
+}
 
 // ---- marks
 
@@ -43,7 +88,7 @@ pub const ON: u8 = 1;
 pub fn to_byte(number: u32) -> u8
     ensures { result ≡ saturated 255 number }
 {
-    if number > 255 { 255 } else { number as u8 }
+    u8::try_from(number).unwrap_or(u8::MAX)
 }
 
 // ---- texts
@@ -52,53 +97,45 @@ pub fn to_byte(number: u32) -> u8
 pub fn byte_at(text: &[u8], i: usize) -> u8
     ensures { result ≡ byte text.now i }
 {
-    if i < text.len() { text[i] } else { 0 }
+    text.get(i).copied().unwrap_or(0)
+}
+
+// N bytes of a text from a place on, filled up with zeros.
+fn bytes_at<const N: usize>(text: &[u8], at: usize) -> [u8; N]
+    requires { at + N < 65536 }
+    ensures { result ≡ tabulate N (λ i. byte text.now (at + i)) }
+{
+    array::from_fn(|i| byte_at(text, at + i))
 }
 
 // A block of a text by its number, filled up with zeros. That whatever can be lent holds bytes, as theorems ask of a text, is
 // promised here for all of them.
+#[tactic(auto, unfolding(crate::specs::Bytes::block_at))]
 pub fn block_at(text: &[u8], number: u8) -> [u8; 16]
     ensures value { result ≡ block_at text.now number }
     ensures bytes { Bytes text.now }
 {
-    let at = 16 * (number as usize);
-    let mut block = [0u8; 16];
-    let mut i: usize = 0;
-    while i < 16 {
-        block[i] = byte_at(text, at + i);
-        i += 1;
-    }
-    block
+    bytes_at(text, 16 * (number as usize))
 }
 
 // Fifteen keys, one of them put anew.
 pub fn put_block(keys: [u8; 240], number: u8, block: [u8; 16]) -> [u8; 240]
     ensures { result ≡ put_block keys number block }
 {
-    if number >= 15 {
-        return keys;
-    }
-    let first = 16 * (number as usize);
     let mut after = keys;
-    let mut i: usize = 0;
-    while i < 16 {
-        after[first + i] = block[i];
-        i += 1;
+    if number < 15 {
+        let first = 16 * (number as usize);
+        after[first..first + 16].copy_from_slice(&block);
     }
     after
 }
 
 // The first 15 bytes of a text, filled up with zeros.
+#[tactic(auto, unfolding(crate::specs::Bytes::uid_from))]
 pub fn uid_from(text: &[u8]) -> [u8; 15]
     ensures { result ≡ uid_from text.now }
 {
-    let mut uid = [0u8; 15];
-    let mut i: usize = 0;
-    while i < 15 {
-        uid[i] = byte_at(text, i);
-        i += 1;
-    }
-    uid
+    bytes_at(text, 0)
 }
 
 // Whether two texts are the same. All bytes are looked at, wherever they differ, so that the time tells nothing of where.
@@ -108,11 +145,5 @@ pub fn is_same(a: &[u8], b: &[u8]) -> bool
     if a.len() != b.len() {
         return false;
     }
-    let mut agree = true;
-    let mut i: usize = 0;
-    while i < a.len() {
-        agree = agree & (a[i] == b[i]);
-        i += 1;
-    }
-    agree
+    a.iter().zip(b).fold(true, |agree, (x, y)| agree & (x == y))
 }

@@ -16,7 +16,7 @@ use Rattle.aes.specs.State.{Bytes, Block}
 use Rattle.basics.specs.Answers.{no_error}
 use Rattle.modes.specs.Blocks.{Text}
 use Rattle.message.specs.Building.{target_of, authority_of}
-use Rattle.message.specs.declared.Opened.{Opened}
+use Rattle.message.specs.Opening.{Opened}
 use Rattle.message.proofs.Building.{handed_back, parts_unique}
 use Rattle.message.proofs.Slots.{pair_slots}
 use Rattle.device.specs.Account.{answer_by}

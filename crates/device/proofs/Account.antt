@@ -8,8 +8,9 @@ use Prim.Native.Nat.{ℕ}
 use native.Mathlib.Omega.{arith}
 use borrow.Author.Tests.{eq-eqb, ne_eqb, eqb-true, eqb-false, not-false}
 use lib.Dec.{eqb}
-use Rattle.basics.specs.Answers.{general_error, first_fault}
-use Rattle.basics.proofs.Faults.{no_fault}
+use Rattle.basics.specs.Answers.{no_error, general_error, number_of, first_fault}
+use Rattle.basics.specs.declared.Refusal.{Refusal}
+use Rattle.basics.proofs.Faults.{no_fault, never_zero}
 use Rattle.device.specs.Account.{Account, answer_by, answer_to, success, perform}
 use Rattle.device.specs.Made.{made}
 use Rattle.device.specs.Outcome.{Outcome, refused, by_answer}
@@ -53,6 +54,13 @@ module _ (call : Account) (d : Device) where
     pub is_done : found ≡ 0 → success call d ≡ perform call d
     unfolding perform
     is_done h = where_done found (answer_to call d) (success call d) refusal e h
+
+  -- the same, of a function that refuses with a refusal
+  pub refuses : (refusal : Refusal) → number_of refusal ≡ answer_to call d → refused (number_of refusal) (call.refusal (number_of refusal) d) call.lent ≡ perform call d
+  refuses refusal e = is_refused (number_of refusal) e (never_zero refusal)
+
+  pub does : no_error ≡ answer_to call d → success call d ≡ perform call d
+  does e = is_done no_error e refl
 
   -- what holds of what a refusal leaves, and of the device after a success, holds of the device after the call
   pub either_way : (P : Device → Type 0) → ((answer_to call d ≡ 0 → ⊥) → P (call.refusal (answer_to call d) d))

@@ -3,7 +3,8 @@
 use Rattle.std.specs.Prelude.{◌≡◌, Bool, cond, List, [], ℕ, leb, length, get_or, set}
 use Rattle.aes.specs.State.{byte, Bytes}
 use Rattle.basics.specs.Bytes.{block_at, put_block}
-use Rattle.basics.specs.Marks.{is_on}
+use Rattle.basics.specs.Marks.{off, on, is_on}
+use Rattle.modes.specs.Blocks.{zero_block}
 use Rattle.device.specs.declared.Device.{Device}
 use Rattle.device.specs.declared.Slot.{Slot}
 
@@ -77,6 +78,13 @@ empty_at d slot = byte d.empty slot
 
 abbrev pub is_empty : Device → ℕ → Bool
 is_empty d slot = is_on (empty_at d slot)
+
+-- a slot with a key that no message brought: no counter, no flags; and an empty slot
+abbrev pub holding : List ℕ → Slot
+holding key = record { key = key; counter = 0; flags = 0; empty = off }
+
+abbrev pub emptied : Slot
+emptied = record { key = zero_block; counter = 0; flags = 0; empty = on }
 
 abbrev pub slot_at : Device → ℕ → Slot
 slot_at d slot = record { key = key_at d slot; counter = counter_at d slot; flags = flags_at d slot; empty = empty_at d slot }

@@ -5,9 +5,9 @@
 #![tactic(auto)]
 
 ghost use Rattle.std.specs.Prelude.{◌≡◌, ◌≤◌};
-ghost use Rattle.device.specs.Made.{slot_fine, slots_fine, marks_fine, made, new_marks, unset, blank, fresh};
-ghost use Rattle.device.specs.Record.{is_marked, key_at, counter_at, empty_at, flags_at, is_empty, set_marks, put_slot, Shaped};
-ghost use Rattle.device.specs.Rules.{has_flag, kept, boot_failed, locked, is_mac, usage_fits, bit_where, status};
+ghost use Rattle.device.specs.Made.{is_zero, slot_fine, slots_fine, marks_fine, made, new_marks, unset, blank, fresh};
+ghost use Rattle.device.specs.Record.{is_marked, key_at, counter_at, flags_at, is_empty, holding, emptied, slot_at, set_marks, put_slot, Shaped};
+ghost use Rattle.device.specs.Rules.{has_flag, kept, boot_failed, locked, usage_fits, bit_where, status};
 
 use basics::{OFF, ON};
 use message::Role;
@@ -44,12 +44,12 @@ pub const BOOT_FINISHED_MARK: usize = 7;
 
 pub const BOOT_OK_MARK: usize = 8;
 
-const MARKS: usize = 11;
+const SLOTS: u8 = 15;
 
 // ---- the record
 
 #[repr(C)]
-#[derive(Clone, Copy)]
+#[derive(Clone, Copy, PartialEq, Eq)]
 pub struct Device {
     // Sixteen bytes a slot.
     pub keys: [u8; 240],
@@ -75,77 +75,50 @@ pub struct Slot {
     pub empty: u8,
 }
 
-// What a command hands back: the answer's number, and the device.
-#[derive(Clone, Copy)]
-pub struct Reply {
-    pub answer: u8,
-    pub device: Device,
-}
+impl Slot {
+    // A slot that no message has filled: a key, and no counter and no flags.
+    pub fn holding(key: [u8; 16]) -> Slot
+        ensures { result ≡ holding key }
+    {
+        Slot {
+            key,
+            counter: 0,
+            flags: 0,
+            empty: OFF,
+        }
+    }
 
-// ---- marks
+    pub fn emptied() -> Slot
+        ensures { result ≡ emptied }
+    {
+        Slot {
+            key: [0; 16],
+            counter: 0,
+            flags: 0,
+            empty: ON,
+        }
+    }
 
-pub fn is_marked(device: Device, place: usize) -> bool
-    ensures { result ≡ is_marked device place }
-{
-    basics::byte_at(&device.marks, place) == ON
-}
+    fn is_zero(&self) -> bool
+        ensures { result ≡ is_zero self.now }
+    {
+        basics::is_same(&self.key, &[0; 16]) & (self.counter == 0) & (self.flags == 0)
+    }
 
-// ---- slots
-
-pub fn key_at(device: Device, slot: u8) -> [u8; 16]
-    ensures { result ≡ key_at device slot }
-{
-    basics::block_at(&device.keys, slot)
-}
-
-pub fn counter_at(device: Device, slot: u8) -> u32
-    ensures { result ≡ counter_at device slot }
-{
-    if slot <= RAM_KEY {
-        device.counters[slot as usize]
-    } else {
-        0
+    // Whether it is what the slot of this number may hold: a mark, a counter and flags that it can keep, and nothing at all where
+    // it is empty.
+    #[tactic(auto, unfolding(crate::specs::Made::slot_fine))]
+    fn is_fine(&self, number: u8) -> bool
+        ensures { result ≡ slot_fine number self.now }
+    {
+        (self.empty <= ON)
+            & (self.counter <= message::counter_kept(number, message::MAX_COUNTER))
+            & (kept(number, self.flags) == self.flags)
+            & ((self.empty != ON) | self.is_zero())
     }
 }
 
-pub fn flags_at(device: Device, slot: u8) -> u8
-    ensures { result ≡ flags_at device slot }
-{
-    basics::byte_at(&device.flags, slot as usize)
-}
-
-fn empty_at(device: Device, slot: u8) -> u8
-    ensures { result ≡ empty_at device slot }
-{
-    basics::byte_at(&device.empty, slot as usize)
-}
-
-pub fn is_empty(device: Device, slot: u8) -> bool
-    ensures { result ≡ is_empty device slot }
-{
-    empty_at(device, slot) == ON
-}
-
-// The device with what one slot holds put anew.
-pub fn put_slot(device: Device, slot: u8, new: Slot) -> Device
-    ensures { result ≡ put_slot slot new device }
-{
-    if slot > RAM_KEY {
-        return device;
-    }
-    let n = slot as usize;
-    let mut after = device;
-    let keys = device.keys;
-    let key = new.key;
-    let stored = basics::put_block(keys, slot, key);
-    after.keys = stored;
-    after.counters[n] = new.counter;
-    after.flags[n] = new.flags;
-    after.empty[n] = new.empty;
-    after
-}
-
-// ---- rules
+// ---- flags
 
 pub fn has_flag(flags: u8, flag: u8) -> bool
     ensures { result ≡ has_flag flags flag }
@@ -154,43 +127,19 @@ pub fn has_flag(flags: u8, flag: u8) -> bool
 }
 
 // Flags as a slot keeps them: one that it hasn't is 0.
+#[tactic(auto, unfolding(crate::specs::Rules::kept))]
 pub fn kept(slot: u8, flags: u8) -> u8
     ensures { result ≡ kept slot flags }
 {
     flags & message::flags_kept(slot)
 }
 
-// Whether the bootloader was checked and is not the right one, or was found bad later.
-fn boot_failed(device: Device) -> bool
-    ensures { result ≡ boot_failed device }
-{
-    is_marked(device, SECURE_BOOT_MARK) & !is_marked(device, BOOT_OK_MARK)
-}
-
-// Whether the debugger or a failed boot check keeps a slot from being used.
-pub fn is_locked(device: Device, slot: u8) -> bool
-    ensures { result ≡ locked device slot }
-{
-    let flags = flags_at(device, slot);
-    is_marked(device, DEBUGGER_MARK) & has_flag(flags, message::DEBUGGER)
-        | boot_failed(device) & has_flag(flags, message::BOOT)
-}
-
-fn is_mac(role: Role) -> bool
-    ensures { result ≡ is_mac role }
-{
-    match role {
-        Role::Cipher => false,
-        Role::GenerateMac => true,
-        Role::VerifyMac => true,
-    }
-}
-
 // Whether KEY_USAGE lets a slot have a role: it says which of KEY_1 to KEY_10 are for MACs.
+#[tactic(auto, unfolding(crate::specs::Rules::usage_fits, laws::specs::Ranges::row_of))]
 pub fn usage_fits(slot: u8, flags: u8, role: Role) -> bool
     ensures { result ≡ usage_fits slot flags role }
 {
-    let mac = is_mac(role);
+    let mac = matches!(role, Role::GenerateMac | Role::VerifyMac);
     let usage = has_flag(flags, message::KEY_USAGE);
     match slot {
         4..=13 => mac == usage,
@@ -198,134 +147,188 @@ pub fn usage_fits(slot: u8, flags: u8, role: Role) -> bool
     }
 }
 
-// What a mark adds to the status.
-fn bit_where(device: Device, place: usize, bit: u8) -> u8
-    ensures value { result ≡ bit_where device place bit }
-    ensures upper_bound { result ≤ bit }
-{
-    if is_marked(device, place) { bit } else { 0 }
-}
+impl Device {
+    // ---- what it holds
 
-pub fn status_of(device: Device) -> u8
-    ensures { result ≡ status device }
-{
-    bit_where(device, SECURE_BOOT_MARK, 2)
-        + bit_where(device, BOOT_INIT_MARK, 4)
-        + bit_where(device, BOOT_FINISHED_MARK, 8)
-        + bit_where(device, BOOT_OK_MARK, 16)
-        + bit_where(device, RNG_MARK, 32)
-        + bit_where(device, DEBUGGER_MARK, 64)
-}
-
-// ---- made
-
-// What a slot may hold: a mark, a counter and flags that it can keep, and nothing at all where it is empty.
-fn slot_fine(number: u8, slot: Slot) -> bool
-    ensures { result ≡ slot_fine number slot }
-{
-    let blank = basics::is_same(&slot.key, &[0u8; 16]) & (slot.counter == 0) & (slot.flags == 0);
-    (slot.empty <= ON)
-        & (slot.counter <= message::counter_kept(number, message::MAX_COUNTER))
-        & (kept(number, slot.flags) == slot.flags)
-        & ((slot.empty != ON) | blank)
-}
-
-fn slots_fine(device: Device) -> bool
-    ensures value { result ≡ slots_fine device }
-    ensures shaped { Shaped device }
-{
-    let mut fine = true;
-    let mut slot: u8 = 0;
-    while slot <= RAM_KEY {
-        let n = slot as usize;
-        let now = Slot {
-            key: basics::block_at(&device.keys, slot),
-            counter: device.counters[n],
-            flags: device.flags[n],
-            empty: device.empty[n],
-        };
-        fine = fine & slot_fine(slot, now);
-        slot += 1;
+    pub fn is_marked(&self, place: usize) -> bool
+        ensures { result ≡ is_marked self.now place }
+    {
+        basics::byte_at(&self.marks, place) == ON
     }
-    fine
-}
 
-fn marks_fine(device: Device) -> bool
-    ensures { result ≡ marks_fine device }
-{
-    let mut fine = true;
-    let mut place: usize = 0;
-    while place < MARKS {
-        fine = fine & (device.marks[place] <= ON);
-        place += 1;
+    pub fn key_at(&self, slot: u8) -> [u8; 16]
+        ensures { result ≡ key_at self.now slot }
+    {
+        basics::block_at(&self.keys, slot)
     }
-    fine
-}
 
-// Whether a record is one that making and the commands can have left. That every record has the shape which theorems ask of it is
-// promised here too.
-pub fn is_made(device: Device) -> bool
-    ensures value { result ≡ made device }
-    ensures shaped { Shaped device }
-{
-    let named = !basics::is_same(&device.uid, &[0u8; 15]);
-    let at_rest = basics::is_same(&device.state, &[0u8; 16])
-        & basics::is_same(&device.rngkey, &[0u8; 16]);
-    is_marked(device, MADE_MARK)
-        & named
-        & !is_empty(device, SECRET_KEY)
-        & slots_fine(device)
-        & (!is_empty(device, RAM_KEY) | !is_marked(device, PLAIN_MARK))
-        & (is_marked(device, RNG_MARK) | at_rest)
-        & marks_fine(device)
-}
-
-// Nothing but a UID, a seed and what every slot's empty mark is.
-fn unset(uid: [u8; 15], seed: [u8; 16], empty: u8) -> Device
-    ensures { result ≡ unset uid seed empty }
-{
-    Device {
-        keys: [0; 240],
-        counters: [0; 15],
-        flags: [0; 15],
-        empty: [empty; 15],
-        uid: uid,
-        seed: seed,
-        state: [0; 16],
-        rngkey: [0; 16],
-        marks: [OFF; 11],
+    pub fn counter_at(&self, slot: u8) -> u32
+        ensures { result ≡ counter_at self.now slot }
+    {
+        self.counters.get(slot as usize).copied().unwrap_or(0)
     }
-}
 
-// The device with the marks of a new one: it is made, and nothing else.
-pub fn with_new_marks(device: Device) -> Device
-    ensures { result ≡ set_marks new_marks device }
-{
-    let mut quiet = device;
-    quiet.marks = [OFF; 11];
-    quiet.marks[MADE_MARK] = ON;
-    quiet
-}
+    pub fn flags_at(&self, slot: u8) -> u8
+        ensures { result ≡ flags_at self.now slot }
+    {
+        basics::byte_at(&self.flags, slot as usize)
+    }
 
-// The blank device: all zero, and not made.
-pub fn blank() -> Device
-    ensures { result ≡ blank }
-{
-    unset([0; 15], [0; 16], OFF)
-}
+    pub fn is_empty(&self, slot: u8) -> bool
+        ensures { result ≡ is_empty self.now slot }
+    {
+        basics::byte_at(&self.empty, slot as usize) == ON
+    }
 
-// A new device: SECRET_KEY is put into a key store of zeros, and all other slots are empty.
-pub fn fresh(uid: [u8; 15], secret: [u8; 16], seed: [u8; 16]) -> Device
-    ensures { result ≡ fresh uid secret seed }
-{
-    put_slot(
-        with_new_marks(unset(uid, seed, ON)),
-        SECRET_KEY,
+    fn slot_at(&self, slot: u8) -> Slot
+        ensures { result ≡ slot_at self.now slot }
+    {
         Slot {
-            key: secret,
-            counter: 0,
-            flags: 0,
-            empty: OFF,
-        },
-    )
+            key: self.key_at(slot),
+            counter: self.counter_at(slot),
+            flags: self.flags_at(slot),
+            empty: basics::byte_at(&self.empty, slot as usize),
+        }
+    }
+
+    // Puts what one slot holds anew.
+    #[tactic(auto, unfolding(crate::specs::Record::put_slot))]
+    pub fn put_slot(&mut self, slot: u8, new: Slot)
+        ensures { self.new ≡ put_slot slot new self.old }
+    {
+        if slot > RAM_KEY {
+            return;
+        }
+        let n = slot as usize;
+        self.keys = basics::put_block(self.keys, slot, new.key);
+        self.counters[n] = new.counter;
+        self.flags[n] = new.flags;
+        self.empty[n] = new.empty;
+    }
+
+    // ---- rules
+
+    // Whether the bootloader was checked and is not the right one, or was found bad later.
+    fn boot_failed(&self) -> bool
+        ensures { result ≡ boot_failed self.now }
+    {
+        self.is_marked(SECURE_BOOT_MARK) & !self.is_marked(BOOT_OK_MARK)
+    }
+
+    // Whether the debugger or a failed boot check keeps a slot from being used.
+    #[tactic(auto, unfolding(crate::specs::Rules::locked))]
+    pub fn is_locked(&self, slot: u8) -> bool
+        ensures { result ≡ locked self.now slot }
+    {
+        let flags = self.flags_at(slot);
+        self.is_marked(DEBUGGER_MARK) & has_flag(flags, message::DEBUGGER)
+            | self.boot_failed() & has_flag(flags, message::BOOT)
+    }
+
+    // What a mark adds to the status.
+    fn bit_where(&self, place: usize, bit: u8) -> u8
+        ensures value { result ≡ bit_where self.now place bit }
+        ensures upper_bound { result ≤ bit }
+    {
+        if self.is_marked(place) { bit } else { 0 }
+    }
+
+    #[tactic(auto, unfolding(crate::specs::Rules::status))]
+    pub fn status(&self) -> u8
+        ensures { result ≡ status self.now }
+    {
+        self.bit_where(SECURE_BOOT_MARK, 2)
+            + self.bit_where(BOOT_INIT_MARK, 4)
+            + self.bit_where(BOOT_FINISHED_MARK, 8)
+            + self.bit_where(BOOT_OK_MARK, 16)
+            + self.bit_where(RNG_MARK, 32)
+            + self.bit_where(DEBUGGER_MARK, 64)
+    }
+
+    // ---- made
+
+    // By value: of a value alone its type tells a proof that the keys are bytes.
+    fn slots_fine(self) -> bool
+        ensures value { result ≡ slots_fine self }
+        ensures shaped { Shaped self }
+    {
+        let mut fine = true;
+        for slot in 0..SLOTS {
+            fine = fine & self.slot_at(slot).is_fine(slot);
+        }
+        fine
+    }
+
+    fn marks_fine(&self) -> bool
+        ensures { result ≡ marks_fine self.now }
+    {
+        let mut fine = true;
+        for mark in &self.marks {
+            fine = fine & (*mark <= ON);
+        }
+        fine
+    }
+
+    // Whether a record is one that making and the commands can have left. That every record has the shape which theorems ask of it
+    // is promised here too.
+    #[tactic(auto, unfolding(crate::specs::Made::made))]
+    pub fn is_made(&self) -> bool
+        ensures value { result ≡ made self.now }
+        ensures shaped { Shaped self.now }
+    {
+        let named = !basics::is_same(&self.uid, &[0; 15]);
+        let at_rest = basics::is_same(&self.state, &[0; 16])
+            & basics::is_same(&self.rngkey, &[0; 16]);
+        self.is_marked(MADE_MARK)
+            & named
+            & !self.is_empty(SECRET_KEY)
+            & self.slots_fine()
+            & (!self.is_empty(RAM_KEY) | !self.is_marked(PLAIN_MARK))
+            & (self.is_marked(RNG_MARK) | at_rest)
+            & self.marks_fine()
+    }
+
+    // ---- new records
+
+    // Nothing but a UID, a seed and what every slot's empty mark is.
+    fn unset(uid: [u8; 15], seed: [u8; 16], empty: u8) -> Device
+        ensures { result ≡ unset uid seed empty }
+    {
+        Device {
+            keys: [0; 240],
+            counters: [0; 15],
+            flags: [0; 15],
+            empty: [empty; 15],
+            uid,
+            seed,
+            state: [0; 16],
+            rngkey: [0; 16],
+            marks: [OFF; 11],
+        }
+    }
+
+    // Gives it the marks of a new one: it is made, and nothing else.
+    pub fn renew_marks(&mut self)
+        ensures { self.new ≡ set_marks new_marks self.old }
+    {
+        self.marks = [OFF; 11];
+        self.marks[MADE_MARK] = ON;
+    }
+
+    // The blank device: all zero, and not made.
+    pub fn blank() -> Device
+        ensures { result ≡ blank }
+    {
+        Device::unset([0; 15], [0; 16], OFF)
+    }
+
+    // A new device: SECRET_KEY is put into a key store of zeros, and all other slots are empty.
+    pub fn fresh(uid: [u8; 15], secret: [u8; 16], seed: [u8; 16]) -> Device
+        ensures { result ≡ fresh uid secret seed }
+    {
+        let mut device = Device::unset(uid, seed, ON);
+        device.renew_marks();
+        device.put_slot(SECRET_KEY, Slot::holding(secret));
+        device
+    }
 }

@@ -1,15 +1,17 @@
--- Opening, writing and judging: what an answer of 0 tells, what each leaves by its answer, and that the last two say the same of a
--- number and of the number saturated.
+-- Opening, writing and judging: what an answer of 0 tells, what each leaves by its answer and by its reply, and that writing says the
+-- same of a number and of the number saturated.
 -- Assumes nothing.
-use mathlib.Core.Path.{◌≡◌, refl, sym, ap, ap₂, ◌∙◌}
+use mathlib.Core.Path.{◌≡◌, refl, sym, ap, ap₂, ◌∙◌, subst}
 use mathlib.Core.Bool.{Bool, true, false, not, cond, ◌&&◌}
 use mathlib.Core.List.{List, [], ◌∷◌}
 use Prim.Native.Nat.{ℕ, ◌≤◌, ◌<◌}
 use native.Mathlib.Omega.{arith}
-use borrow.Author.Tests.{eq-eqb, ne_eqb, leb-true, not-false}
+use borrow.Author.Tests.{eq-eqb, ne_eqb, leb-true, leb-false, not-false}
 use lib.Dec.{leb}
-use lib.ListN.{length, get_or, replicate}
+use lib.ListN.{length, get_or, replicate, get_or-eq_default}
 use lib.Seq.{paste}
+use Rattle.std.specs.Prelude.{Option, Some, None, Result, Ok, Err}
+use Rattle.std.specs.Result.{result_unwrap_or}
 use Rattle.laws.specs.All.{all}
 use Rattle.laws.specs.Lengths.{right_lengths}
 use Rattle.laws.specs.Ranges.{within}
@@ -18,11 +20,13 @@ use Rattle.laws.proofs.Lengths.{each_right}
 use Rattle.laws.proofs.Ranges.{above}
 use Rattle.laws.proofs.Test.{both}
 use Rattle.aes.specs.State.{byte}
-use Rattle.basics.specs.Bytes.{uid_from, zero_uid}
+use Rattle.basics.specs.Answers.{no_error, number_of, answer_of}
+use Rattle.basics.specs.declared.Refusal.{Refusal}
+use Rattle.basics.specs.Bytes.{block_at, uid_from, zero_uid}
 use Rattle.basics.specs.Marks.{is_mark}
 use Rattle.basics.specs.Wide.{saturated}
-use Rattle.basics.proofs.Bytes.{block_long, uid_whole}
-use Rattle.basics.proofs.Faults.{no_fault}
+use Rattle.basics.proofs.Bytes.{block_long, block_whole, uid_whole}
+use Rattle.basics.proofs.Faults.{no_fault, never_zero}
 use Rattle.basics.proofs.Wide.{saturates, fitting, wide_test, by_answer_lem}
 use Rattle.message.specs.FirstBlock.{max_counter}
 use Rattle.message.specs.Flags.{flag_count}
@@ -31,10 +35,10 @@ use Rattle.message.specs.Slots.{allowed}
 use Rattle.message.specs.Writer.{messages, full_form, proof, proof_form}
 use Rattle.message.proofs.Slots.{pair_slots, wide_pair}
 use Rattle.message.proofs.Written.{wrote_messages, wrote_proof}
-use Rattle.garage.specs.Book.{line_at, is_held, put_line, Shaped}
-use Rattle.garage.specs.Calls.{write_lengths, write_answer, waiting_line, noted, writing, judge_lengths, judge_answer, is_proof, taken, verdict_yes, verdict_no, judging}
+use Rattle.garage.specs.Book.{line_at, is_held, put_line}
+use Rattle.garage.specs.Calls.{write_lengths, write_answer, waiting_line, noted, writing, judge_lengths, judge_answer, is_proof, taken, verdict_yes, verdict_no, judging, judged}
 use Rattle.garage.specs.Open.{open_marks, is_open, unwritten, blank, open_lengths, open_answer, held_keys, opening}
-use Rattle.garage.specs.Outcome.{Outcome, refused, done, by_answer}
+use Rattle.garage.specs.Outcome.{Outcome, outcome, refused, done, by_answer}
 use Rattle.garage.specs.Rules.{next_counter, secret_of, pair_answer}
 use Rattle.garage.specs.declared.Book.{Book}
 use Rattle.garage.specs.declared.Line.{Line}
@@ -57,6 +61,18 @@ pub record Openable (uid keys held counters : List ℕ) : Type 0 where
   pub marks : all 15 (λ i. is_mark (byte held i)) ≡ true
   pub counts : all 13 (λ i. leb (get_or counters i 0) max_counter) ≡ true
 
+-- each length that opening asks for
+pub record Long (uid keys held counters : ℕ) : Type 0 where
+  pub of_uid : uid ≡ 15
+  pub of_keys : keys ≡ 240
+  pub of_held : held ≡ 15
+  pub of_counters : counters ≡ 13
+
+pub long_of : (uid keys held counters : ℕ) → right_lengths (open_lengths uid keys held counters) ≡ true → Long uid keys held counters
+long_of uid keys held counters e =
+    let l = each_right (open_lengths uid keys held counters) e in
+    record { of_uid = l 0; of_keys = l 1; of_held = l 2; of_counters = l 3 }
+
 module _ (uid keys held counters : List ℕ) where
   pub openable : open_answer uid keys held counters ≡ 0 → Openable uid keys held counters
   unfolding open_answer
@@ -66,6 +82,9 @@ module _ (uid keys held counters : List ℕ) where
       let three = no_fault (not (all 15 (λ i. is_mark (byte held i)))) 12 _ (λ z. omega arith) two.1 in
       let four = no_fault (not (all 13 (λ i. leb (get_or counters i 0) max_counter))) 12 0 (λ z. omega arith) three.1 in
       record { long = not-false _ one.0; named = two.0; marks = not-false _ three.0; counts = not-false _ four.0 }
+
+  pub counters_long : no_error ≡ open_answer uid keys held counters → length counters ≡ 13
+  counters_long e = (long_of _ _ _ _ (openable (sym e)).long).of_counters
 
   module _ (answer : ℕ) (e : answer ≡ open_answer uid keys held counters) where
     pub open_refused : (after : Book) → (answer ≡ 0 → ⊥) → after ≡ blank → refused answer after [] ≡ opening uid keys held counters
@@ -120,17 +139,17 @@ module _ (b : Book) (key b1 b2 b3 : List ℕ) where
     write_refused h = ap (λ (n : ℕ). refused n b (b1 ∷ b2 ∷ b3 ∷ [])) e ∙ sym (is_refused _ _ _ (λ z. h (e ∙ z)))
 
     -- the message that the writer wrote, and the line put
-    pub write_done : (secret a1 a2 a3 : List ℕ) (counter r : ℕ) (after : Book) → Shaped b → answer ≡ 0 → counter ≡ next_counter b target
+    pub write_done : (secret a1 a2 a3 : List ℕ) (counter r : ℕ) (after : Book) → length b.uid ≡ 15 → answer ≡ 0 → counter ≡ next_counter b target
         → secret ≡ secret_of b authority → messages r a1 a2 a3 ≡ full_form b.uid target authority secret counter flags key b1 b2 b3
         → after ≡ put_line target (waiting_line authority counter key (line_at b target)) b
         → done after 0 (a1 ∷ a2 ∷ a3 ∷ []) ≡ writing b target authority flags key b1 b2 b3
     unfolding writing
-    write_done secret a1 a2 a3 counter r after shaped zero same_counter same_secret e-wrote e-book =
+    write_done secret a1 a2 a3 counter r after uid_long zero same_counter same_secret e-wrote e-book =
         let ok = writable b write_long flags target authority (sym e ∙ zero) in
         let l = each_right (write_lengths (length key) (length b1) (length b2) (length b3)) ok.long in
         let fits : counter ≤ max_counter = omega (arith, same_counter, ok.pair.counts) in
         let secret-fits = ap length same_secret ∙ secret_long b authority in
-        let wrote = wrote_messages b.uid key target authority counter shaped.uid_long (l 0) fits ok.pair.allows secret b1 b2 b3 a1 a2 a3 flags r
+        let wrote = wrote_messages b.uid key target authority counter uid_long (l 0) fits ok.pair.allows secret b1 b2 b3 a1 a2 a3 flags r
         secret-fits (l 1) (l 2) (l 3) ok.few e-wrote in
         rw (wrote.0, wrote.1, wrote.2, e-book, same_counter, same_secret) (sym (is_done _ _ _ (sym e ∙ zero)))
 
@@ -184,6 +203,31 @@ module _ (b : Book) (key b1 b2 b3 : List ℕ) where
   pub as_it_came : (target authority flags t a f : ℕ) → t ≡ saturated 255 target → a ≡ saturated 255 authority → f ≡ saturated 255 flags
       → writing b t a f key b1 b2 b3 ≡ writing b target authority flags key b1 b2 b3
   as_it_came target authority flags t a f p q r = rw (p, q, r) (wide_writing target authority flags)
+
+  -- what a reply leaves, from what was found of the numbers saturated
+  module _ (target authority flags t a f : ℕ) (same_t : t ≡ saturated 255 target) (same_a : a ≡ saturated 255 authority)
+      (same_f : f ≡ saturated 255 flags) (lengths : Bool) (long : lengths ≡ write_long) where
+    by_lengths : (answer : ℕ) → answer ≡ write_answer b lengths f t a → answer ≡ write_answer b write_long f t a
+    by_lengths answer e = e ∙ ap (λ (l : Bool). write_answer b l f t a) long
+
+    pub written_refused : (reply : Result Book Refusal) (refusal : Refusal) → reply ≡ Err refusal → number_of refusal ≡ write_answer b lengths f t a
+        → outcome (answer_of reply) (result_unwrap_or reply b) 0 (b1 ∷ b2 ∷ b3 ∷ []) ≡ writing b target authority flags key b1 b2 b3
+    written_refused reply refusal is e =
+        ap (λ (r : Result Book Refusal). outcome (answer_of r) (result_unwrap_or r b) 0 (b1 ∷ b2 ∷ b3 ∷ [])) is
+        ∙ write_refused t a f (number_of refusal) (by_lengths (number_of refusal) e) (never_zero refusal)
+        ∙ as_it_came target authority flags t a f same_t same_a same_f
+
+    pub written_done : no_error ≡ write_answer b lengths f t a → (counter : ℕ) → counter ≡ next_counter b t → (secret : List ℕ) → secret ≡ secret_of b a
+        → (r : ℕ) (a1 a2 a3 : List ℕ) → messages r a1 a2 a3 ≡ full_form b.uid t a secret counter f key b1 b2 b3 → (line : Line) → line ≡ line_at b t
+        → (kept : List ℕ) → kept ≡ block_at key 0 → (after : Book) → after ≡ put_line t (waiting_line a counter kept line) b → length b.uid ≡ 15
+        → done after 0 (a1 ∷ a2 ∷ a3 ∷ []) ≡ writing b target authority flags key b1 b2 b3
+    written_done e counter same_counter secret same_secret r a1 a2 a3 wrote line same_line kept same_key after put uid_long =
+        let answer = by_lengths no_error e in
+        let known = writable b write_long f t a (sym answer) in
+        let whole = each_right (write_lengths (length key) (length b1) (length b2) (length b3)) known.long 0 in
+        let book = put ∙ ap₂ (λ (l : Line) (k : List ℕ). put_line t (waiting_line a counter k l) b) same_line (same_key ∙ block_whole key whole) in
+        write_done t a f no_error answer secret a1 a2 a3 counter r after uid_long refl same_counter same_secret wrote book
+        ∙ as_it_came target authority flags t a f same_t same_a same_f
 
 -- ---- judging
 pub record Judgeable (b : Book) (lengths : Bool) (target : ℕ) : Type 0 where
@@ -241,7 +285,34 @@ module _ (b : Book) (fourth fifth : List ℕ) where
       (λ zero. let ok = judgeable b judge_long target zero in rw (fitting 255 target (omega (arith, ok.last))) refl)
       (λ other. sym (judge_refused _ answer (sym (wide_judge_answer judge_long target)) other) ∙ judge_refused target answer refl other)
 
--- ---- the comparison: a line that nothing waits in, and the proof of what waits
+  -- what a reply leaves, from what was found of a slot whose number is the target's, saturated
+  module _ (target : ℕ) where
+    pub judged_refused : (reply : Result (Option Book) Refusal) (refusal : Refusal) → reply ≡ Err refusal
+        → number_of refusal ≡ judge_answer b judge_long target → judged b reply ≡ judging b target fourth fifth
+    judged_refused reply refusal is e = ap (judged b) is ∙ judge_refused target (number_of refusal) e (never_zero refusal)
+
+    module _ (e : no_error ≡ judge_answer b judge_long target) (slot : ℕ) (same_slot : slot ≡ saturated 255 target) where
+      slot_is : slot ≡ target
+      slot_is = same_slot ∙ fitting 255 target (omega (arith, (judgeable b judge_long target (sym e)).last))
+
+      pub judged_no : is_proof b slot fourth fifth ≡ false → judged b (Ok None) ≡ judging b target fourth fifth
+      judged_no other = says_no target 0 e refl (subst (λ (s : ℕ). is_proof b s fourth fifth ≡ false) slot_is other)
+
+      pub judged_yes : (after : Book) → is_proof b slot fourth fifth ≡ true → after ≡ taken b slot
+          → judged b (Ok (Some after)) ≡ judging b target fourth fifth
+      judged_yes after so e-book =
+          says_yes target 0 e after refl (subst (λ (s : ℕ). is_proof b s fourth fifth ≡ true) slot_is so) (e-book ∙ ap (taken b) slot_is)
+
+-- ---- the comparison: where a message waits there is a slot; a line that nothing waits in, and the proof of what waits
+pub waits_in_slot : (b : Book) (target : ℕ) → length b.waits ≡ 15 → (line_at b target).waits ≡ 1 → target ≤ 14
+waits_in_slot b target long so = tests (leb target 14) refl
+  where
+    tests : (t : Bool) → leb target 14 ≡ t → target ≤ 14
+    tests true h = leb-true target 14 h
+    tests false h =
+        let none = get_or-eq_default b.waits 0 {n = target} (omega (arith, long, leb-false target 14 h)) in
+        absurd (omega (arith, none, so))
+
 module _ (b : Book) (target : ℕ) (line : Line) (same_line : line ≡ line_at b target) (fourth fifth : List ℕ) where
   pub none_waits : (line.waits ≡ 1 → ⊥) → false ≡ is_proof b target fourth fifth
   unfolding is_proof
@@ -262,3 +333,8 @@ module _ (b : Book) (target : ℕ) (line : Line) (same_line : line ≡ line_at b
       let pair : allowed target line.authority ≡ true = ap (allowed target) by ∙ now.0.allows in
       let wrote = wrote_proof b.uid line.newkey target line.authority line.newcounter hu hk few pair b4 b5 a4 a5 r h4 h5 e in
       rw (eq-eqb _ 1 waits, wrote.0, wrote.1, sym by, sym counter, sym key) refl
+
+-- ---- what the proofs of opening and of judging stand on
+pub ruleset opening_laws = (counters_long, open_refused, open_done, never_zero)
+
+pub ruleset judging_laws = (judgeable, judged_refused, judged_no, judged_yes)

@@ -1,6 +1,8 @@
+pub mod AllOf
 pub mod Called
 pub mod Lines
 pub mod NewBook
+pub mod Next
 pub mod Opened
 pub mod Promised
 pub mod Settled

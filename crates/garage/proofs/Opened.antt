@@ -4,9 +4,8 @@ use mathlib.Core.Path.{◌≡◌, refl, sym}
 use mathlib.Core.Bool.{Bool, true, false, not, cond, ◌&&◌, ◌||◌, false≢true}
 use Prim.Native.Nat.{ℕ, ◌≤◌}
 use native.Mathlib.Omega.{arith}
-use borrow.Author.Tests.{leb-true, leb-false, le-leb, eqb-true, eq-eqb, not-true, not-false}
+use borrow.Author.Tests.{leb-true, le-leb, eqb-true, eq-eqb, not-true, not-false}
 use lib.Dec.{eqb, leb}
-use lib.ListN.{get_or, get_or-eq_default}
 use Rattle.laws.specs.Same.{same}
 use Rattle.laws.proofs.Same.{same_equal, equal_same}
 use Rattle.laws.proofs.Test.{both, all_each, each_all}
@@ -16,8 +15,7 @@ use Rattle.basics.proofs.Faults.{no_fault}
 use Rattle.modes.specs.Blocks.{zero_block}
 use Rattle.message.specs.FirstBlock.{max_counter}
 use Rattle.message.specs.Slots.{counter_kept, allowed}
-use Rattle.message.proofs.Slots.{counter_below}
-use Rattle.garage.specs.Book.{line_at, is_held, Shaped}
+use Rattle.garage.specs.Book.{line_at, is_held}
 use Rattle.garage.specs.Open.{open_marks, waiting_fine, line_fine, lines_fine, is_open}
 use Rattle.garage.specs.Rules.{next_counter, pair_answer}
 use Rattle.garage.specs.declared.Book.{Book}
@@ -155,13 +153,3 @@ unfolding is_open lines_fine
 book_open b o =
     and_true _ _ (and_true _ _ (same_equal _ _ o.open_marks_lem) (true_not _ o.named))
     (each_all 15 (λ n. line_fine b n (line_at b n)) (λ slot h. line_fine_lem b slot (line_at b slot) (o.lines slot (omega (arith, h)))))
-
--- a counter is at most 268,435,455, and 0 past the last slot
-pub open_counter : (b : Book) → Shaped b → is_open b ≡ true → (slot : ℕ) → get_or b.counters slot 0 ≤ max_counter
-open_counter b shaped e slot = tests (leb slot 14) refl
-  where
-    tests : (t : Bool) → leb slot 14 ≡ t → get_or b.counters slot 0 ≤ max_counter
-    tests true h = omega (arith, ((open_book b e).lines slot (leb-true slot 14 h)).counted, counter_below slot max_counter)
-    tests false h =
-        let none = get_or-eq_default b.counters 0 {n = slot} (omega (arith, shaped.all_counters, leb-false slot 14 h)) in
-        omega (arith, none)

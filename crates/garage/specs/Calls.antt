@@ -1,10 +1,11 @@
 -- Writing M1 to M3, and judging an M4 and M5, with the order of their checks, for lent buffers of any lengths and any numbers.
 -- Assumes nothing.
-use Rattle.std.specs.Prelude.{Bool, not, cond, ◌&&◌, List, [], ◌∷◌, ℕ, ◌-◌, ◌^◌, leb, length}
+use Rattle.std.specs.Prelude.{Bool, not, cond, ◌&&◌, List, [], ◌∷◌, ℕ, ◌-◌, ◌^◌, leb, length, Option, Some, None, Result, Ok, Err}
 use Rattle.laws.specs.Lengths.{right_lengths}
 use Rattle.laws.specs.Ranges.{within}
 use Rattle.laws.specs.Same.{same}
-use Rattle.basics.specs.Answers.{general_error, key_invalid, first_fault}
+use Rattle.basics.specs.Answers.{general_error, key_invalid, number_of, first_fault}
+use Rattle.basics.specs.declared.Refusal.{Refusal}
 use Rattle.basics.specs.Marks.{off, on, is_on}
 use Rattle.modes.specs.Blocks.{zero_block}
 use Rattle.message.specs.Flags.{flag_count}
@@ -109,3 +110,9 @@ judging b target fourth fifth =
     by_answer answer
     (cond (is_proof b target fourth fifth) (done (taken b target) verdict_yes []) (done b verdict_no []))
     (refused answer b [])
+
+-- what a reply to it leaves: a yes and the book after it; a no, or a refusal, and the book as it was
+abbrev pub judged : Book → Result (Option Book) Refusal → Outcome
+judged b (Ok (Some after)) = done after verdict_yes []
+judged b (Ok None) = done b verdict_no []
+judged b (Err refusal) = refused (number_of refusal) b []

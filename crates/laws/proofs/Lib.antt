@@ -2,6 +2,7 @@ pub mod Among
 pub mod And
 pub mod Each
 pub mod Lengths
+pub mod Made
 pub mod Paste
 pub mod Powers
 pub mod Ranges

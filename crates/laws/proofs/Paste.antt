@@ -1,21 +1,11 @@
--- A loop that pastes into a list, and what then lies at each index. Of parts that are put one after the other, `part_put`
--- says that what was put before, and this part, are the first n bytes.
+-- A list with a part pasted in, and what then lies at each index.
 -- Assumes nothing.
 use Prim.Native.Nat.{ℕ, ◌+◌, ◌≤◌, ◌<◌}
 use mathlib.Core.Path.{◌≡◌, sym, ◌∙◌, ap, ap₂}
 use mathlib.Core.List.{List, ◌++◌, append-nil}
-use native.Mathlib.Numerals.{add-one}
 use native.Mathlib.Omega.{arith}
-use lib.ListN.{length, take, get_or, set, get_or-append, drop_of_length-le}
-use lib.Seq.{take_all, take-length, paste, paste-suc, take-paste, drop-paste, length-take-le, get_or-take, get_or-drop, get_or-append-add}
-
--- a turn of the loop `w[at + j] = s[j]; j += 1`, and its end
-pub paste_more : (d s w : List ℕ) (at j : ℕ) → at + j < length d → j < length s → w ≡ paste d at s j
-    → set w (at + j) (get_or s j 0) ≡ paste d at s (j + 1)
-paste_more d s w at j hd hs inv = rw add-one (ap (λ (l : List ℕ). set l (at + j) (get_or s j 0)) inv ∙ paste-suc d at s j 0 hd hs)
-
-pub pasted : (d s w : List ℕ) (at j n : ℕ) → j ≡ n → w ≡ paste d at s j → w ≡ paste d at s n
-pasted d s w at j n e inv = inv ∙ ap (λ (k : ℕ). paste d at s k) e
+use lib.ListN.{length, take, get_or, get_or-append, drop_of_length-le}
+use lib.Seq.{take_all, paste, take-paste, drop-paste, length-take-le, get_or-take, get_or-drop, get_or-append-add}
 
 -- all of d pasted over
 pub pasted_over : (d s : List ℕ) (n : ℕ) → length d ≡ n → length s ≡ n → paste d 0 s n ≡ s
@@ -48,11 +38,3 @@ module _ (d s : List ℕ) (at n : ℕ) (room : at + n ≤ length d) (enough : n 
       sym (get_or-drop (at + n) (paste d at s n) i 0)
       ∙ ap (λ (t : List ℕ). get_or t i 0) (drop-paste d at s n (omega arith) enough)
       ∙ get_or-drop (at + n) d i 0
-
--- parts put one after the other: n numbers of the list are what was done before, and this part
-pub part_put : (d s w done : List ℕ) (at n : ℕ) → take at d ≡ done → at + length s ≡ n → n ≤ length d → w ≡ paste d at s (length s)
-    → take n w ≡ done ++ s
-part_put d s w done at n before to room e =
-    ap₂ take (sym to) e
-    ∙ take-paste d at s (length s) (omega arith) (omega arith)
-    ∙ ap₂ (λ (a b : List ℕ). a ++ b) before (take-length s)

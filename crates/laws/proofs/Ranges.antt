@@ -6,7 +6,6 @@ use mathlib.Core.Bool.{Bool, true, false, cond, ◌&&◌, and-false}
 use mathlib.Core.List.{List, ◌∷◌}
 use mathlib.Core.Logic.{◌⊎◌, inl, inr}
 use Prim.Native.Nat.{ℕ, ◌≤◌, ◌<◌}
-use native.Mathlib.Omega.{arith}
 use borrow.Author.Tests.{le-leb, lt-leb, leb-true}
 use lib.Dec.{leb}
 use Rattle.laws.proofs.Test.{both}
@@ -20,15 +19,6 @@ below first last n h = ap (λ (a : Bool). a && leb n last) (lt-leb first n h)
 
 pub above : (first last n : ℕ) → last < n → within first last n ≡ false
 above first last n h = ap (λ (b : Bool). leb first n && b) (lt-leb n last h) ∙ and-false (leb first n)
-
--- a range of one number
-pub apart : (k n : ℕ) → (n ≡ k → ⊥) → within k k n ≡ false
-apart k n h = tests (leb k n) (leb n k) refl refl
-  where
-    tests : (a b : Bool) → leb k n ≡ a → leb n k ≡ b → (a && b) ≡ false
-    tests true true l g = absurd (h (omega (arith, leb-true k n l, leb-true n k g)))
-    tests true false l g = refl
-    tests false b l g = refl
 
 module _ {A : Type 0} (n first last : ℕ) (value other : A) (rows : List (ℕ × ℕ × A)) where
   -- what a table says is said by its first row, where n lies in it, or by the others

@@ -6,7 +6,7 @@ use mathlib.Core.List.{List, [], ◌∷◌, ◌++◌}
 use Prim.Native.Nat.{ℕ, zero, suc, ◌+◌, ◌≤◌, ◌<◌}
 use native.Mathlib.Omega.{arith}
 use native.Mathlib.Numerals.{add-one}
-use lib.ListN.{get_or, take, drop, set, length, length-drop, length-set}
+use lib.ListN.{get_or, take, drop, set, length, length-drop}
 use lib.Seq.{take-suc-set, take_all, length-take-le, get_or-take, get_or-drop}
 use Rattle.laws.specs.Tabulate.{tabulate}
 
@@ -65,9 +65,3 @@ fill f t i v h e inv =
 -- the loop at its end
 pub filled : (f : ℕ → ℕ) (t : List ℕ) (i n : ℕ) → length t ≡ n → i ≡ n → take i t ≡ tabulate i f → t ≡ tabulate n f
 filled f t i n h k inv = sym (take_all n t (omega arith)) ∙ subst (λ (m : ℕ). take m t ≡ tabulate m f) k inv
-
--- the last element stored after the loop
-pub filled_last : (f : ℕ → ℕ) (t : List ℕ) (i n v : ℕ) → length t ≡ suc n → i ≡ n → v ≡ f n → take i t ≡ tabulate i f → set t n v ≡ tabulate (suc n) f
-filled_last f t i n v h k e inv =
-    filled f (set t n v) (n + 1) (suc n) (length-set t n v ∙ h) (add-one n)
-    (fill f t n v (omega arith) e (subst (λ (m : ℕ). take m t ≡ tabulate m f) k inv))

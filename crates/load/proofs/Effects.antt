@@ -21,7 +21,7 @@ use Rattle.message.specs.Building.{uid_of, target_of, authority_of, Carried}
 use Rattle.message.specs.FirstBlock.{max_counter}
 use Rattle.message.specs.Messages.{sent, build}
 use Rattle.message.specs.Slots.{flags_kept, counter_kept}
-use Rattle.message.specs.declared.Opened.{Opened}
+use Rattle.message.specs.Opening.{Opened}
 use Rattle.message.proofs.Building.{opens}
 use Rattle.message.proofs.Slots.{pair_slots, counter_1_13}
 use Rattle.device.specs.Account.{answer_by}

@@ -1,3 +1,4 @@
 pub mod Effects
 pub mod Exporting
 pub mod Loading
+pub mod Writing

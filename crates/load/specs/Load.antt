@@ -6,9 +6,8 @@ use Rattle.basics.specs.Answers.{key_invalid, first_fault, key_empty, key_not_av
 use Rattle.message.specs.Building.{uid_of, target_of, authority_of}
 use Rattle.message.specs.Flags.{write}
 use Rattle.message.specs.Messages.{m4, m5}
-use Rattle.message.specs.Opening.{opened}
+use Rattle.message.specs.Opening.{Opened, opened}
 use Rattle.message.specs.Slots.{allowed, counter_kept}
-use Rattle.message.specs.declared.Opened.{Opened}
 use Rattle.device.specs.Account.{Account, unchanged}
 use Rattle.device.specs.Outcome.{Outcome, done}
 use Rattle.device.specs.Record.{is_empty, flags_at}

@@ -31,8 +31,7 @@ use Rattle.modes.proofs.Texts.{first, rest}
 use Rattle.message.specs.Building.{uid_of, target_of, authority_of, Carried}
 use Rattle.message.specs.FirstBlock.{first_block, counter_of, flags_of, filler_of}
 use Rattle.message.specs.Messages.{enc_key, mac_key, m1, m2, m3, m4, m5, Sent, sent, build}
-use Rattle.message.specs.Opening.{open_lengths, clear_text, opened_text, unopened, opened}
-use Rattle.message.specs.declared.Opened.{Opened}
+use Rattle.message.specs.Opening.{Opened, open_lengths, clear_text, opened_text, unopened, opened}
 use Rattle.message.proofs.Opening.{opened_by_m3}
 use Rattle.message.proofs.FirstBlock.{first_block_lem, counter_packed, flags_packed, filler_packed, counter_read, flags_read, packs_back}
 

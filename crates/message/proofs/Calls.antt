@@ -1,24 +1,23 @@
 -- What the modes give on buffers of the lengths that messages have.
 -- Assumes nothing.
-use mathlib.Core.Path.{◌≡◌, ◌∙◌}
-use mathlib.Core.Bool.{true}
-use mathlib.Core.List.{List}
-use Prim.Native.Nat.{ℕ}
+use mathlib.Core.Path.{◌≡◌, ap, sym, ◌∙◌}
+use mathlib.Core.List.{List, append-nil}
+use Prim.Native.Nat.{ℕ, ◌-◌, ◌*◌}
+use native.Mathlib.Omega.{arith}
 use lib.ListN.{length}
+use Rattle.std.specs.Prelude.{Result}
+use Rattle.std.specs.Result.{IsOk}
+use Rattle.basics.specs.Answers.{answer_of}
+use Rattle.basics.specs.declared.Refusal.{Refusal}
+use Rattle.basics.proofs.Faults.{done_ok}
 use Rattle.aes.specs.Cipher.{cipher, inv_cipher}
-use Rattle.laws.specs.Lengths.{right_lengths}
-use Rattle.modes.specs.Answer.{three_blocks, cbc_lengths, cmac_lengths}
+use Rattle.modes.specs.Answer.{outcome, cbc_lengths}
 use Rattle.modes.specs.Cbc.{cbc_encrypt, cbc_decrypt}
-use Rattle.modes.specs.Cmac.{cmac}
-use Rattle.modes.specs.Compression.{kdf}
-use Rattle.modes.specs.Routines.{cbc_encryption, cbc_decryption, authentication, derivation}
-use Rattle.modes.proofs.Lent.{succeeded}
+use Rattle.modes.specs.Cmac.{block_count, cmac, text_mac}
+use Rattle.modes.specs.Routines.{cbc_encryption, cbc_decryption}
+use Rattle.modes.proofs.Lent.{answer_done, succeeded}
 
 module _ (key before after : List ℕ) (hk : length key ≡ 16) where
-  pub derives : (constant : List ℕ) → length constant ≡ 16 → length before ≡ 16 → after ≡ (derivation key constant before).output → after ≡ kdf key constant
-  unfolding three_blocks right_lengths
-  derives constant hc hb e = e ∙ succeeded _ _ before (rw (hk, hc, hb))
-
   -- two blocks
   pub encrypts : (iv text : List ℕ) → length iv ≡ 16 → length text ≡ 32 → length before ≡ 32 → after ≡ (cbc_encryption key iv text before).output
       → after ≡ cbc_encrypt (cipher key) iv text
@@ -30,7 +29,17 @@ module _ (key before after : List ℕ) (hk : length key ≡ 16) where
   unfolding cbc_lengths
   decrypts iv text hi ht hb e = e ∙ succeeded _ _ before (rw (hk, hi, ht, hb))
 
-  -- so many bits in so many bytes, where CMAC takes these
-  pub signs : (bits size : ℕ) (message : List ℕ) → cmac_lengths 16 bits size 16 ≡ true → length message ≡ size → length before ≡ 16
-      → after ≡ (authentication key bits message before).output → after ≡ cmac (cipher key) bits message
-  signs bits size message taken hm hb e = e ∙ succeeded _ _ before (rw (hk, hm, hb) taken)
+-- neither is refused
+pub not_refused : (key iv text before result : List ℕ) (reply : Result Unit Refusal) → length key ≡ 16 → length iv ≡ 16 → length text ≡ 32
+    → length before ≡ 32 → answer_of reply ≡ (outcome (cbc_lengths (length key) (length iv) (length text) (length before)) result before).answer
+    → IsOk reply
+unfolding cbc_lengths
+not_refused key iv text before result reply hk hi ht hb e = done_ok reply (e ∙ sym (answer_done _ result before (rw (hk, hi, ht, hb))))
+
+-- a text of whole blocks, k bytes of them, has the MAC of all of its bits
+pub signs : (ciph : List ℕ → List ℕ) (text : List ℕ) (k : ℕ) → length text ≡ k → 16 * block_count (8 * k) ≡ k
+    → text_mac ciph text ≡ cmac ciph (8 * k) text
+unfolding text_mac
+signs ciph text k long whole =
+    let none : 16 * block_count (8 * k) - k ≡ 0 = omega (arith, whole) in
+    rw (long, none) (ap (cmac ciph (8 * k)) (append-nil text))

@@ -7,7 +7,7 @@ use mathlib.Core.List.{List, [], ◌∷◌, ◌++◌}
 use Prim.Native.Nat.{ℕ, ◌+◌, ◌*◌, ◌/◌, ◌%◌, ◌^◌, ◌≤◌, ◌<◌}
 use native.Mathlib.Omega.{arith}
 use borrow.Author.Tests.{eq-eqb, ne_eqb, eqb-true, eqb-false}
-use lib.Bits.{bit_or, bit_and, or_shifted, and_mask, and_high}
+use lib.Bits.{bit_or, bit_and, or_shifted, and_mask}
 use lib.Dec.{eqb}
 use lib.ListN.{length, take, drop, replicate, length-drop, take-append-drop}
 use lib.Pow.{shr-shr, high, low, mod-pow-add}
@@ -33,23 +33,19 @@ five_bytes c f =
     sum c f = omega arith
 
 pub packed : (c f : ℕ) → c ≤ 268435455 → f < 32
-    → (c / 1048576 ∷ bit_and (c / 4096) 255 ∷ bit_and (c / 16) 255 ∷ bit_or (bit_and (c * 16 % 4294967296) 240) (f / 2) ∷ f * 128 % 256 ∷ replicate 11 0)
+    → (c * 16 % 4294967296 / 16777216 % 256 ∷ c * 16 % 4294967296 / 65536 % 256 ∷ c * 16 % 4294967296 / 256 % 256
+    ∷ bit_or (c * 16 % 4294967296 % 256) (f / 2) ∷ f * 128 % 256 ∷ replicate 11 0)
     ≡ first_block 5 c f
 packed c f hc hf =
     let h : ℕ = c * 4096 + f * 128 in
-    let b0 : c / 1048576 ≡ h / 256 ^ 4 % 256 = omega arith in
-    let b1 : bit_and (c / 4096) 255 ≡ h / 256 ^ 3 % 256 = and_mask (c / 4096) 8 ∙ omega arith in
-    let b2 : bit_and (c / 16) 255 ≡ h / 256 ^ 2 % 256 = and_mask (c / 16) 8 ∙ omega arith in
-    let top : bit_and (c * 16 % 4294967296) 240 ≡ c % 16 * 16 = and_high (c * 16 % 4294967296) 4 4 ∙ omega arith in
-    let b3 : bit_or (bit_and (c * 16 % 4294967296) 240) (f / 2) ≡ h / 256 ^ 1 % 256
+    let b0 : c * 16 % 4294967296 / 16777216 % 256 ≡ h / 256 ^ 4 % 256 = omega arith in
+    let b1 : c * 16 % 4294967296 / 65536 % 256 ≡ h / 256 ^ 3 % 256 = omega arith in
+    let b2 : c * 16 % 4294967296 / 256 % 256 ≡ h / 256 ^ 2 % 256 = omega arith in
+    let top : c * 16 % 4294967296 % 256 ≡ c % 16 * 16 = omega arith in
+    let b3 : bit_or (c * 16 % 4294967296 % 256) (f / 2) ≡ h / 256 ^ 1 % 256
     = ap (λ (x : ℕ). bit_or x (f / 2)) top ∙ or_shifted (c % 16) 4 (f / 2) (omega arith) ∙ omega arith in
     let b4 : f * 128 % 256 ≡ h / 256 ^ 0 % 256 = omega arith in
-    ap₂ (λ (x : ℕ) (l : List ℕ). x ∷ l) b0
-    (ap₂ (λ (x : ℕ) (l : List ℕ). x ∷ l) b1
-    (ap₂ (λ (x : ℕ) (l : List ℕ). x ∷ l) b2
-    (ap₂ (λ (x : ℕ) (l : List ℕ). x ∷ l) b3
-    (ap (λ (x : ℕ). x ∷ replicate 11 0) b4))))
-    ∙ sym (five_bytes c f)
+    rw (b0, b1, b2, b3, b4) (sym (five_bytes c f))
 
 -- ---- reading: the number of the first five bytes, and what comes after them
 module _ (b : List ℕ) (long : length b ≡ 16) (small : Bytes b) where
@@ -77,25 +73,9 @@ module _ (b : List ℕ) (long : length b ≡ 16) (small : Bytes b) where
   head_of : number b / 2 ^ 88 ≡ head
   head_of = ap (λ (x : ℕ). x / 2 ^ 88) in_parts ∙ high head 88 tail_below
 
-  pub counter_by_shifts : bit_or (bit_or (bit_or (byte b 0 * 1048576 % 4294967296) (byte b 1 * 4096 % 4294967296)) (byte b 2 * 16 % 4294967296)) (byte b 3 / 16) ≡ counter_of b
+  pub counter_by_shift : (byte b 0 * 16777216 + byte b 1 * 65536 + byte b 2 * 256 + byte b 3) / 16 ≡ counter_of b
   unfolding counter_of
-  counter_by_shifts =
-      let x : ℕ = byte b 0 in
-      let y : ℕ = byte b 1 in
-      let z : ℕ = byte b 2 in
-      let w : ℕ = byte b 3 in
-      let m0 : x * 1048576 % 4294967296 ≡ x * 1048576 = omega (arith, small 0) in
-      let m1 : y * 4096 % 4294967296 ≡ y * 4096 = omega (arith, small 1) in
-      let m2 : z * 16 % 4294967296 ≡ z * 16 = omega (arith, small 2) in
-      let r1 : x * 1048576 + y * 4096 ≡ (x * 256 + y) * 4096 = omega arith in
-      let r2 : (x * 256 + y) * 4096 + z * 16 ≡ ((x * 256 + y) * 256 + z) * 16 = omega arith in
-      ap₂ bit_or
-      (ap₂ bit_or (ap₂ bit_or m0 m1 ∙ or_shifted x 20 (y * 4096) (omega (arith, small 1)) ∙ r1) m2
-      ∙ or_shifted (x * 256 + y) 12 (z * 16) (omega (arith, small 2)) ∙ r2) refl
-      ∙ or_shifted ((x * 256 + y) * 256 + z) 4 (w / 16) (omega (arith, small 3))
-      ∙ omega (arith, small 3, small 4)
-      ∙ ap (λ (h : ℕ). h / 2 ^ 12) (sym head_of)
-      ∙ shr-shr (number b) 88 12
+  counter_by_shift = omega (arith, small 4) ∙ ap (λ (h : ℕ). h / 2 ^ 12) (sym head_of) ∙ shr-shr (number b) 88 12
 
   pub flags_by_shifts : bit_or (bit_and (byte b 3) 15 * 2 % 256) (byte b 4 / 128) ≡ flags_of 5 b
   unfolding flags_of

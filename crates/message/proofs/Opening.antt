@@ -27,3 +27,5 @@ module _ (n : ℕ) (auth_key one two three : List ℕ) where
 
   pub opened_by_m3 : Lengths ≡ true → same three (m3 auth_key one two) ≡ true → opened_text n (clear_text auth_key two) ≡ opened n auth_key one two three
   opened_by_m3 h m = by_tests true true h m
+
+pub ruleset stays_closed = (closed_by_lengths, closed_by_m3)

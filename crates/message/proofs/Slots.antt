@@ -1,5 +1,5 @@
--- The tables of the slots, range by range. A law for each range of each table says what the table has there, as the arms of
--- the code's `match` ask for it.
+-- The tables of the slots, range by range: what a table has there, for the theorems that ask for it, what the tables say of a
+-- pair, and that they say it of wide numbers too.
 -- Assumes nothing.
 use mathlib.Core.Path.{◌≡◌, refl, sym, ◌∙◌}
 use mathlib.Core.Bool.{Bool, true, false, cond, ◌||◌, false≢true}
@@ -10,41 +10,15 @@ use native.Mathlib.Omega.{arith}
 use borrow.Author.Tests.{eqb-true, leb-true}
 use lib.Dec.{eqb, leb}
 use Rattle.laws.specs.Ranges.{within, row_of}
-use Rattle.laws.proofs.Ranges.{inside, below, above, apart, by_row}
+use Rattle.laws.proofs.Ranges.{inside, below, above, by_row}
 use Rattle.laws.proofs.Test.{both, either}
 use Rattle.basics.specs.Wide.{saturated}
 use Rattle.basics.proofs.Wide.{saturates}
-use Rattle.message.specs.Slots.{kind_of, has_role, flags_kept, counter_kept, allowed}
-use Rattle.message.specs.declared.Kind.TheVariants.{KeyN, NoSlot}
+use Rattle.message.specs.Slots.{has_role, flags_kept, counter_kept, allowed}
 use Rattle.message.specs.declared.Role.{Role}
-
--- ---- kinds
-pub kind_4_13 : (s : ℕ) → 4 ≤ s → s ≤ 13 → KeyN ≡ kind_of s
-unfolding kind_of row_of
-kind_4_13 s l h = simp (above 0 0 s (omega arith), above 1 1 s (omega arith), above 2 2 s (omega arith), above 3 3 s (omega arith), inside 4 13 s l h)
-
-pub kind_15 : (s : ℕ) → 15 ≤ s → NoSlot ≡ kind_of s
-unfolding kind_of row_of
-kind_15 s l =
-    simp (
-      above 0 0 s (omega arith),
-      above 1 1 s (omega arith),
-      above 2 2 s (omega arith),
-      above 3 3 s (omega arith),
-      above 4 13 s (omega arith),
-      above 14 14 s (omega arith),
-    )
 
 -- ---- roles
 module _ (s : ℕ) (role : Role) where
-  pub role_low : s < 4 → (s ≡ 2 → ⊥) → false ≡ has_role s role
-  unfolding has_role row_of
-  role_low h n = simp (apart 2 s n, below 4 13 s h, below 14 14 s (omega arith))
-
-  pub role_4_13 : 4 ≤ s → s ≤ 13 → true ≡ has_role s role
-  unfolding has_role row_of
-  role_4_13 l h = simp (above 2 2 s (omega arith), inside 4 13 s l h)
-
   pub role_15 : 15 ≤ s → false ≡ has_role s role
   unfolding has_role row_of
   role_15 l = simp (above 2 2 s (omega arith), above 4 13 s (omega arith), above 14 14 s (omega arith))
@@ -55,24 +29,12 @@ module _ (s : ℕ) where
   unfolding flags_kept row_of
   kept_0 h = simp (below 1 1 s h, below 2 3 s (omega arith), below 4 13 s (omega arith))
 
-  pub kept_2_3 : 2 ≤ s → s ≤ 3 → 21 ≡ flags_kept s
-  unfolding flags_kept row_of
-  kept_2_3 l h = simp (above 1 1 s l, inside 2 3 s l h)
-
-  pub kept_4_13 : 4 ≤ s → s ≤ 13 → 31 ≡ flags_kept s
-  unfolding flags_kept row_of
-  kept_4_13 l h = simp (above 1 1 s (omega arith), above 2 3 s (omega arith), inside 4 13 s l h)
-
   pub kept_14 : 14 ≤ s → 0 ≡ flags_kept s
   unfolding flags_kept row_of
   kept_14 l = simp (above 1 1 s (omega arith), above 2 3 s (omega arith), above 4 13 s (omega arith))
 
 -- ---- counters
 module _ (s c : ℕ) where
-  pub counter_0 : s < 1 → 0 ≡ counter_kept s c
-  unfolding counter_kept row_of
-  counter_0 h = simp (below 1 13 s h)
-
   pub counter_1_13 : 1 ≤ s → s ≤ 13 → c ≡ counter_kept s c
   unfolding counter_kept row_of
   counter_1_13 l h = simp (inside 1 13 s l h)
@@ -92,17 +54,9 @@ module _ (s c : ℕ) where
 
 -- ---- pairs
 module _ (t a : ℕ) where
-  pub pair_0 : t < 1 → false ≡ allowed t a
-  unfolding allowed row_of
-  pair_0 h = simp (below 1 1 t h, below 2 3 t (omega arith), below 4 13 t (omega arith), below 14 14 t (omega arith))
-
   pub pair_2_3 : 2 ≤ t → t ≤ 3 → (eqb a 1 || eqb a 2) ≡ allowed t a
   unfolding allowed row_of
   pair_2_3 l h = simp (above 1 1 t l, inside 2 3 t l h)
-
-  pub pair_4_13 : 4 ≤ t → t ≤ 13 → (eqb a 1 || eqb a t) ≡ allowed t a
-  unfolding allowed row_of
-  pair_4_13 l h = simp (above 1 1 t (omega arith), above 2 3 t (omega arith), inside 4 13 t l h)
 
   pub pair_15 : 15 ≤ t → false ≡ allowed t a
   unfolding allowed row_of

@@ -12,8 +12,9 @@ use lib.ListN.{length}
 use Rattle.laws.specs.Lengths.{right_lengths}
 use Rattle.laws.proofs.Test.{where_equal, where_other}
 use Rattle.basics.specs.Answers.{no_error, general_error, key_invalid, written}
-use Rattle.basics.proofs.Faults.{no_fault}
+use Rattle.basics.proofs.Faults.{no_fault, never_zero}
 use Rattle.message.specs.Flags.{flag_count}
+use Rattle.message.proofs.Slots.{counter_below}
 use Rattle.message.specs.FirstBlock.{max_counter}
 use Rattle.message.specs.Messages.{m1, m2, m3, m4, m5}
 use Rattle.message.specs.Slots.{counter_kept, allowed}
@@ -76,10 +77,10 @@ proof_refusal_leaves uid key b4 b5 t a c other = (sym (unwritten _ _ _ other), s
 
 -- ---- what is left, part by part
 left : {n n' : ℕ} {a a' b b' c c' : List ℕ} → n ≡ n' → a ≡ a' → b ≡ b' → c ≡ c' → messages n a b c ≡ messages n' a' b' c'
-left {n' = n'} {a' = a'} {b = b} {c = c} p q r s = ap₂ (λ (x : ℕ) (y : List ℕ). messages x y b c) p q ∙ ap₂ (λ (y z : List ℕ). messages n' a' y z) r s
+left p q r s = cc
 
 left_proof : {n n' : ℕ} {a a' b b' : List ℕ} → n ≡ n' → a ≡ a' → b ≡ b' → proof n a b ≡ proof n' a' b'
-left_proof {n' = n'} {a' = a'} {b = b} p q r = ap₂ (λ (x : ℕ) (y : List ℕ). proof x y b) p q ∙ ap (λ (z : List ℕ). proof n' a' z) r
+left_proof p q r = cc
 
 -- ---- the full form
 module _ (uid auth_key key b1 b2 b3 : List ℕ) (t a c f answer : ℕ)
@@ -112,6 +113,11 @@ module _ (uid key b4 b5 : List ℕ) (t a c answer : ℕ)
   proof_written a4 a5 h e4 e5 =
       let done = sym e ∙ h in
       left_proof (sym done) (e4 ∙ is_written _ _ _ done) (e5 ∙ ap (m5 key) e4 ∙ is_written _ _ _ done)
+
+-- ---- the two ways out of each, for the functions that write
+pub ruleset messages_left = (never_zero, messages_refused, messages_written)
+
+pub ruleset proof_left = (never_zero, counter_below, proof_refused, proof_written)
 
 -- ---- both succeed where the lengths, the numbers and the pair are right
 module _ (uid key : List ℕ) (t a c : ℕ) (hu : length uid ≡ 15) (hk : length key ≡ 16) (counter : c ≤ max_counter) (pair : allowed t a ≡ true) where

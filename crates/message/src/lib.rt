@@ -5,20 +5,18 @@
 // refused, and a refusal writes nothing. `authkey` is the authority's key throughout, and `key` the new one.
 #![tactic(auto)]
 
-ghost use Rattle.std.specs.Prelude.{◌≡◌, ◌++◌, ◌∷◌, [], ◌+◌, ◌≤◌, ◌<◌, eqb, length, take, drop};
-ghost use Rattle.std.proofs.Math.Seq.{paste};
+ghost use Rattle.std.specs.Prelude.{◌≡◌, ◌++◌, ◌∷◌, [], ◌+◌, ◌≤◌, ◌<◌, eqb, length, IsTrue, OnOk};
 ghost use Rattle.laws.specs.Lengths.{right_lengths};
 ghost use Rattle.aes.specs.Cipher.{cipher};
-ghost use Rattle.modes.specs.Compression.{kdf};
-ghost use Rattle.modes.specs.Constants.{constant_of};
+ghost use Rattle.basics.specs.Answers.{answer_of};
 ghost use Rattle.message.specs.Flags.{flag_count};
 ghost use Rattle.message.specs.FirstBlock.{first_block, counter_of, flags_of, filler_of, max_counter, proof_block};
 ghost use Rattle.message.specs.Messages.{enc_key, slot_byte, target_in, authority_in, m2, m3, m5};
-ghost use Rattle.message.specs.Opening.{open_lengths, opened, opened_text, unopened};
-ghost use Rattle.message.specs.Slots.{kind_of, only_verifies, has_role, flags_kept, counter_kept, allowed};
+ghost use Rattle.message.specs.Opening.{open_lengths, opened, opened_as, opened_text};
+ghost use Rattle.message.specs.Slots.{kind_of, has_role, flags_kept, counter_kept, allowed};
 ghost use Rattle.message.specs.Writer.{message_lengths, writer_answer, messages, full_form, short_form, fleet_sheet, proof_lengths, proof, proof_form};
 
-use basics::{GENERAL_ERROR, NO_ERROR};
+use basics::Refusal;
 use modes::Constant;
 
 // The largest counter, of 28 bits.
@@ -42,7 +40,7 @@ const SHORT_FLAGS: u8 = 0;
 
 // ---- slots
 
-#[derive(Clone, Copy)]
+#[derive(Clone, Copy, Debug, PartialEq, Eq)]
 pub enum Kind {
     SecretKey,
     MasterEcuKey,
@@ -53,44 +51,38 @@ pub enum Kind {
     NoSlot,
 }
 
-pub fn kind_of(slot: u8) -> Kind
-    ensures { result ≡ kind_of slot }
-{
-    match slot {
-        0 => Kind::SecretKey,
-        1 => Kind::MasterEcuKey,
-        2 => Kind::BootMacKey,
-        3 => Kind::BootMac,
-        4..=13 => Kind::KeyN,
-        14 => Kind::RamKey,
-        _ => Kind::NoSlot,
+impl From<u8> for Kind {
+    ghost from_gives = { λ slot kind. kind ≡ kind_of slot };
+
+    #[tactic(auto, unfolding(crate::specs::Slots::kind_of, laws::specs::Ranges::row_of))]
+    fn from(slot: u8) -> Kind {
+        match slot {
+            0 => Kind::SecretKey,
+            1 => Kind::MasterEcuKey,
+            2 => Kind::BootMacKey,
+            3 => Kind::BootMac,
+            4..=13 => Kind::KeyN,
+            14 => Kind::RamKey,
+            _ => Kind::NoSlot,
+        }
     }
 }
 
 // What a command uses a key for: ECB and CBC, GENERATE_MAC, VERIFY_MAC.
-#[derive(Clone, Copy)]
+#[derive(Clone, Copy, Debug, PartialEq, Eq)]
 pub enum Role {
     Cipher,
     GenerateMac,
     VerifyMac,
 }
 
-fn only_verifies(role: Role) -> bool
-    ensures { result ≡ only_verifies role }
-{
-    match role {
-        Role::Cipher => false,
-        Role::GenerateMac => false,
-        Role::VerifyMac => true,
-    }
-}
-
 // Whether a slot can ever have a role. Which of the first two a slot from 4 to 13 has is said by its KEY_USAGE.
+#[tactic(auto, unfolding(crate::specs::Slots::has_role, laws::specs::Ranges::row_of))]
 pub fn has_role(slot: u8, role: Role) -> bool
     ensures { result ≡ has_role slot role }
 {
     match slot {
-        2 => only_verifies(role),
+        2 => role == Role::VerifyMac,
         4..=13 => true,
         14 => true,
         _ => false,
@@ -98,6 +90,7 @@ pub fn has_role(slot: u8, role: Role) -> bool
 }
 
 // The flags that a slot keeps; it stores any other as 0.
+#[tactic(auto, unfolding(crate::specs::Slots::flags_kept, laws::specs::Ranges::row_of))]
 pub fn flags_kept(slot: u8) -> u8
     ensures { result ≡ flags_kept slot }
 {
@@ -110,6 +103,7 @@ pub fn flags_kept(slot: u8) -> u8
 }
 
 // A counter as a slot keeps it: a slot that has none keeps 0.
+#[tactic(auto, unfolding(crate::specs::Slots::counter_kept, laws::specs::Ranges::row_of))]
 pub fn counter_kept(slot: u8, counter: u32) -> u32
     ensures { result ≡ counter_kept slot counter }
 {
@@ -120,30 +114,41 @@ pub fn counter_kept(slot: u8, counter: u32) -> u32
 }
 
 // Whether a target may be loaded by an authority.
+#[tactic(auto, unfolding(crate::specs::Slots::allowed, laws::specs::Ranges::row_of))]
 pub fn is_allowed(target: u8, authority: u8) -> bool
     ensures { result ≡ allowed target authority }
 {
     match target {
         1 => authority == 1,
-        2..=3 => (authority == 1) | (authority == 2),
-        4..=13 => (authority == 1) | (authority == target),
-        14 => (4 <= authority) & (authority <= 13) | (authority == 0),
+        2..=3 => matches!(authority, 1 | 2),
+        4..=13 => authority == 1 || authority == target,
+        14 => matches!(authority, 0 | 4..=13),
         _ => false,
     }
 }
 
 // ---- bytes
 
-// Puts a part into a text, from `at` on.
-fn put(text: &mut [u8], at: usize, part: &[u8])
-    requires { at + length part.now ≤ length text.old }
-    ensures { text.new ≡ paste text.old at part.now (length part.now) }
+// A text of N bytes as an array.
+fn array<const N: usize>(text: &[u8]) -> [u8; N]
+    requires { length text.now ≡ N }
+    ensures { result ≡ text.now }
 {
-    let mut i: usize = 0;
-    while i < part.len() {
-        text[at + i] = part[i];
-        i += 1;
-    }
+    let mut bytes = [0u8; N];
+    bytes.copy_from_slice(text);
+    bytes
+}
+
+// One text after another, N bytes in all.
+fn join<const N: usize>(front: &[u8], back: &[u8]) -> [u8; N]
+    requires { length front.now + length back.now ≡ N }
+    ensures { result ≡ front.now ++ back.now }
+{
+    let mut whole = [0u8; N];
+    let (start, end) = whole.split_at_mut(front.len());
+    start.copy_from_slice(front);
+    end.copy_from_slice(back);
+    whole
 }
 
 // ---- the first block of M2
@@ -155,10 +160,8 @@ fn first_block(counter: u32, flags: u8) -> [u8; 16]
     ensures { result ≡ first_block flag_count counter flags }
 {
     let mut block = [0u8; 16];
-    block[0] = (counter >> 20) as u8;
-    block[1] = (counter >> 12 & 0xff) as u8;
-    block[2] = (counter >> 4 & 0xff) as u8;
-    block[3] = (counter << 4 & 0xf0) as u8 | flags >> 1;
+    block[..4].copy_from_slice(&(counter << 4).to_be_bytes());
+    block[3] |= flags >> 1;
     block[4] = flags << 7;
     block
 }
@@ -167,10 +170,7 @@ fn counter_of(block: [u8; 16]) -> u32
     ensures value { result ≡ counter_of block }
     ensures upper_bound { result ≤ max_counter }
 {
-    (block[0] as u32) << 20
-        | (block[1] as u32) << 12
-        | (block[2] as u32) << 4
-        | (block[3] as u32) >> 4
+    u32::from_be_bytes([block[0], block[1], block[2], block[3]]) >> 4
 }
 
 fn flags_of(block: [u8; 16]) -> u8
@@ -209,69 +209,53 @@ pub fn authority_of(slots: u8) -> u8
     slots & 15
 }
 
-// K1 to K4.
-fn derived(key: &[u8], name: Constant) -> [u8; 16]
-    requires { length key.now ≡ 16 }
-    ensures { result ≡ kdf key.now (constant_of name) }
+// UID and slots: this is M1, and M4 begins so.
+fn build_m1(uid: [u8; 15], slots: u8) -> [u8; 16]
+    ensures { result ≡ uid ++ (slots ∷ []) }
 {
-    let constant = modes::constant_of(name);
-    let mut output = [0u8; 16];
-    modes::kdf(key, &constant, &mut output);
-    output
+    join(&uid, &[slots])
 }
 
-// UID and slots into the first 16 bytes: this is M1, and M4 begins so.
-fn write_head(uid: &[u8], slots: u8, text: &mut [u8])
-    requires { (length uid.now ≡ 15) × (16 ≤ length text.old) }
-    ensures { take 16 text.new ≡ uid.now ++ (slots ∷ []) }
+fn build_m2(authkey: [u8; 16], counter: u32, flags: u8, key: [u8; 16]) -> [u8; 32]
+    requires { (counter ≤ max_counter) × (flags < 32) }
+    ensures { result ≡ m2 flag_count authkey counter flags key }
 {
-    put(text, 0, uid);
-    put(text, 15, &[slots]);
+    let k1 = modes::derive(authkey, Constant::KeyUpdateEnc);
+    let clear: [u8; 32] = join(&first_block(counter, flags), &key);
+    let mut text = [0u8; 32];
+    modes::cbc_encrypt(&k1, &[0u8; 16], &clear, &mut text).unwrap();
+    text
 }
 
-fn write_m2(authkey: &[u8], counter: u32, flags: u8, key: &[u8], text: &mut [u8])
-    requires { (length authkey.now ≡ 16) × (counter ≤ max_counter) × (flags < 32) × (length key.now ≡ 16) × (length text.old ≡ 32) }
-    ensures { text.new ≡ m2 flag_count authkey.now counter flags key.now }
+fn build_m3(authkey: [u8; 16], first: [u8; 16], second: [u8; 32]) -> [u8; 16]
+    ensures { result ≡ m3 authkey first second }
 {
-    let k1 = derived(authkey, Constant::KeyUpdateEnc);
-    let mut clear = [0u8; 32];
-    put(&mut clear, 0, &first_block(counter, flags));
-    put(&mut clear, 16, key);
-    modes::cbc_encrypt(&k1, &[0u8; 16], &clear, text);
+    let k2 = modes::derive(authkey, Constant::KeyUpdateMac);
+    modes::text_mac(k2, first, &second)
 }
 
-fn write_m3(authkey: &[u8], first: &[u8], second: &[u8], text: &mut [u8])
-    requires { (length authkey.now ≡ 16) × (length first.now ≡ 16) × (length second.now ≡ 32) × (length text.old ≡ 16) }
-    ensures { text.new ≡ m3 authkey.now first.now second.now }
+#[tactic(auto, using(crate::proofs::FirstBlock::one_bit))]
+fn build_m4(uid: [u8; 15], slots: u8, counter: u32, key: [u8; 16]) -> [u8; 32]
+    requires { counter ≤ max_counter }
+    ensures { result ≡ (uid ++ (slots ∷ [])) ++ cipher (enc_key key) (proof_block counter) }
 {
-    let k2 = derived(authkey, Constant::KeyUpdateMac);
-    let mut message = [0u8; 48];
-    put(&mut message, 0, first);
-    put(&mut message, 16, second);
-    modes::cmac(&k2, 384, &message, text);
-}
-
-fn write_m4(uid: &[u8], slots: u8, counter: u32, key: &[u8], text: &mut [u8])
-    requires { (length uid.now ≡ 15) × (counter ≤ max_counter) × (length key.now ≡ 16) × (length text.old ≡ 32) }
-    ensures { text.new ≡ (uid.now ++ (slots ∷ [])) ++ cipher (enc_key key.now) (proof_block counter) }
-{
-    write_head(uid, slots, text);
-    let k3 = derived(key, Constant::KeyUpdateEnc);
+    let k3 = modes::derive(key, Constant::KeyUpdateEnc);
     // A 1 bit after the counter, and zeros after that: so stands the first flag alone.
     let proof = aes::encrypt(k3, first_block(counter, WRITE));
-    put(text, 16, &proof);
+    join(&build_m1(uid, slots), &proof)
 }
 
-fn write_m5(key: &[u8], fourth: &[u8], text: &mut [u8])
-    requires { (length key.now ≡ 16) × (length fourth.now ≡ 32) × (length text.old ≡ 16) }
-    ensures { text.new ≡ m5 key.now fourth.now }
+fn build_m5(key: [u8; 16], fourth: [u8; 32]) -> [u8; 16]
+    ensures { result ≡ m5 key fourth }
 {
-    let k4 = derived(key, Constant::KeyUpdateMac);
-    modes::cmac(&k4, 256, fourth, text);
+    let k4 = modes::derive(key, Constant::KeyUpdateMac);
+    let (head, proof) = fourth.split_at(16);
+    modes::text_mac(k4, array(head), proof)
 }
 
 // ---- the writer
 
+#[tactic(auto, unfolding(laws::specs::Lengths::right_lengths))]
 fn message_lengths(
     uid: usize,
     authkey: usize,
@@ -280,60 +264,83 @@ fn message_lengths(
     second: usize,
     third: usize,
 ) -> bool
-    ensures { result ≡ right_lengths (message_lengths uid authkey key first second third) }
+    ensures value { result ≡ right_lengths (message_lengths uid authkey key first second third) }
+    ensures each { IsTrue result → (uid ≡ 15) × (authkey ≡ 16) × (key ≡ 16) × (first ≡ 16) × (second ≡ 32) × (third ≡ 16) }
 {
     (uid == 15) & (authkey == 16) & (key == 16) & (first == 16) & (second == 32) & (third == 16)
 }
 
-fn writer_answer(lengths: bool, counter: u32, flags: u8, target: u8, authority: u8) -> u8
-    ensures { result ≡ writer_answer lengths counter flags target authority }
-{
-    if !lengths {
-        return GENERAL_ERROR;
-    }
-    if counter > MAX_COUNTER {
-        return GENERAL_ERROR;
-    }
-    if flags > ALL_FLAGS {
-        return GENERAL_ERROR;
-    }
-    if !is_allowed(target, authority) {
-        return basics::KEY_INVALID;
-    }
-    NO_ERROR
-}
-
-// M1 to M3 for a device, or for all devices with a UID of zeros.
-pub fn write_key(
-    uid: &[u8],
-    target: u8,
-    authority: u8,
-    authkey: &[u8],
+#[tactic(auto, using(crate::proofs::Slots::pair_slots), unfolding(crate::specs::Writer::writer_answer))]
+fn check_writer(
+    lengths: bool,
     counter: u32,
     flags: u8,
-    key: &[u8],
-    m1: &mut [u8],
-    m2: &mut [u8],
-    m3: &mut [u8],
-) -> u8
-    ensures { messages result m1.new m2.new m3.new ≡ full_form uid.now target authority authkey.now counter flags key.now m1.old m2.old m3.old }
+    target: u8,
+    authority: u8,
+) -> Result<(), Refusal>
+    ensures answer { answer_of result ≡ writer_answer lengths counter flags target authority }
+    ensures ok { OnOk result (IsTrue lengths × (counter ≤ max_counter) × (flags < 32) × (target < 16) × (authority < 16)) }
 {
-    let lengths = message_lengths(
-        uid.len(),
-        authkey.len(),
-        key.len(),
-        m1.len(),
-        m2.len(),
-        m3.len(),
-    );
-    let answer = writer_answer(lengths, counter, flags, target, authority);
-    if answer != NO_ERROR {
-        return answer;
+    if !lengths {
+        return Err(Refusal::GeneralError);
     }
-    write_head(uid, slot_byte(target, authority), m1);
-    write_m2(authkey, counter, flags, key, m2);
-    write_m3(authkey, m1, m2, m3);
-    NO_ERROR
+    if counter > MAX_COUNTER {
+        return Err(Refusal::GeneralError);
+    }
+    if flags > ALL_FLAGS {
+        return Err(Refusal::GeneralError);
+    }
+    if !is_allowed(target, authority) {
+        return Err(Refusal::KeyInvalid);
+    }
+    Ok(())
+}
+
+// What M1 to M3 are to carry, to one device or with a UID of zeros to all: a key for the slot `target` with its counter and flags,
+// under `authkey`, the key of the slot `authority`. Any of it may be wrong until `write` has looked at it.
+#[derive(Clone, Copy)]
+pub struct Update<'a> {
+    pub uid: &'a [u8],
+    pub target: u8,
+    pub authority: u8,
+    pub authkey: &'a [u8],
+    pub counter: u32,
+    pub flags: u8,
+    pub key: &'a [u8],
+}
+
+impl Update<'_> {
+    // M1 to M3. A refusal writes nothing.
+    #[tactic(auto, using(crate::proofs::Written::messages_left), unfolding(crate::specs::Messages::m1))]
+    pub fn write(&self, m1: &mut [u8], m2: &mut [u8], m3: &mut [u8]) -> Result<(), Refusal>
+        ensures { messages (answer_of result) m1.new m2.new m3.new
+            ≡ full_form self.now.uid.now self.now.target self.now.authority self.now.authkey.now self.now.counter self.now.flags
+            self.now.key.now m1.old m2.old m3.old }
+    {
+        let lengths = message_lengths(
+            self.uid.len(),
+            self.authkey.len(),
+            self.key.len(),
+            m1.len(),
+            m2.len(),
+            m3.len(),
+        );
+        check_writer(
+            lengths,
+            self.counter,
+            self.flags,
+            self.target,
+            self.authority,
+        )?;
+        let authkey = array(self.authkey);
+        let first = build_m1(array(self.uid), slot_byte(self.target, self.authority));
+        let second = build_m2(authkey, self.counter, self.flags, array(self.key));
+        let third = build_m3(authkey, first, second);
+        m1.copy_from_slice(&first);
+        m2.copy_from_slice(&second);
+        m3.copy_from_slice(&third);
+        Ok(())
+    }
 }
 
 // Without flags.
@@ -347,21 +354,20 @@ pub fn write_key_short(
     m1: &mut [u8],
     m2: &mut [u8],
     m3: &mut [u8],
-) -> u8
-    ensures { messages result m1.new m2.new m3.new ≡ short_form uid.now target authority authkey.now counter key.now m1.old m2.old m3.old }
+) -> Result<(), Refusal>
+    ensures { messages (answer_of result) m1.new m2.new m3.new
+        ≡ short_form uid.now target authority authkey.now counter key.now m1.old m2.old m3.old }
 {
-    write_key(
+    let update = Update {
         uid,
         target,
         authority,
         authkey,
         counter,
-        SHORT_FLAGS,
+        flags: SHORT_FLAGS,
         key,
-        m1,
-        m2,
-        m3,
-    )
+    };
+    update.write(m1, m2, m3)
 }
 
 // One message for many boards.
@@ -374,22 +380,26 @@ pub fn fleet_sheet(
     m1: &mut [u8],
     m2: &mut [u8],
     m3: &mut [u8],
-) -> u8
-    ensures { messages result m1.new m2.new m3.new ≡ fleet_sheet target authority authkey.now counter key.now m1.old m2.old m3.old }
+) -> Result<(), Refusal>
+    ensures { messages (answer_of result) m1.new m2.new m3.new
+        ≡ fleet_sheet target authority authkey.now counter key.now m1.old m2.old m3.old }
 {
     write_key_short(
         &[0u8; 15], target, authority, authkey, counter, key, m1, m2, m3,
     )
 }
 
+#[tactic(auto, unfolding(laws::specs::Lengths::right_lengths))]
 fn proof_lengths(uid: usize, key: usize, fourth: usize, fifth: usize) -> bool
-    ensures { result ≡ right_lengths (proof_lengths uid key fourth fifth) }
+    ensures value { result ≡ right_lengths (proof_lengths uid key fourth fifth) }
+    ensures each { IsTrue result → (uid ≡ 15) × (key ≡ 16) × (fourth ≡ 32) × (fifth ≡ 16) }
 {
     (uid == 15) & (key == 16) & (fourth == 32) & (fifth == 16)
 }
 
 // The M4 and M5 with which a device of this UID proves that it has taken a message with this counter: it names the counter as the
 // target keeps it.
+#[tactic(auto, using(crate::proofs::Written::proof_left), unfolding(crate::specs::Messages::m4, crate::specs::Messages::m1))]
 pub fn write_proof(
     uid: &[u8],
     target: u8,
@@ -398,92 +408,72 @@ pub fn write_proof(
     key: &[u8],
     m4: &mut [u8],
     m5: &mut [u8],
-) -> u8
-    ensures { proof result m4.new m5.new ≡ proof_form uid.now target authority counter key.now m4.old m5.old }
+) -> Result<(), Refusal>
+    ensures { proof (answer_of result) m4.new m5.new ≡ proof_form uid.now target authority counter key.now m4.old m5.old }
 {
     let lengths = proof_lengths(uid.len(), key.len(), m4.len(), m5.len());
-    let answer = writer_answer(lengths, counter, 0, target, authority);
-    if answer != NO_ERROR {
-        return answer;
-    }
+    check_writer(lengths, counter, 0, target, authority)?;
+    let key = array(key);
     let stored = counter_kept(target, counter);
-    write_m4(uid, slot_byte(target, authority), stored, key, m4);
-    write_m5(key, m4, m5);
-    NO_ERROR
+    let fourth = build_m4(array(uid), slot_byte(target, authority), stored, key);
+    let fifth = build_m5(key, fourth);
+    m4.copy_from_slice(&fourth);
+    m5.copy_from_slice(&fifth);
+    Ok(())
 }
 
 // ---- opening
 
-// What M1 to M3 hold: whether M3 is the MAC of M1 and M2, the counter, the flags, whether the filler after them is all zeros, and
-// the new key. Where `genuine` is false, M3 or a length is wrong, and the rest is zero and false.
+// What M1 to M3 hold where M3 is the MAC of M1 and M2: the counter, the flags, whether the filler after them is all zeros, and
+// the new key.
 #[derive(Clone, Copy)]
-pub struct Opened {
-    pub genuine: bool,
+pub struct Contents {
     pub counter: u32,
     pub flags: u8,
     pub zerofill: bool,
     pub key: [u8; 16],
 }
 
-fn not_opened() -> Opened
-    ensures value { result ≡ unopened }
-    ensures counter_le_max_counter { result.counter ≤ max_counter }
-{
-    Opened {
-        genuine: false,
-        counter: 0,
-        flags: 0,
-        zerofill: false,
-        key: [0u8; 16],
-    }
-}
-
+#[tactic(auto, unfolding(laws::specs::Lengths::right_lengths))]
 fn open_lengths(authkey: usize, first: usize, second: usize, third: usize) -> bool
-    ensures { result ≡ right_lengths (open_lengths authkey first second third) }
+    ensures value { result ≡ right_lengths (open_lengths authkey first second third) }
+    ensures each { IsTrue result → (authkey ≡ 16) × (first ≡ 16) × (second ≡ 32) × (third ≡ 16) }
 {
     (authkey == 16) & (first == 16) & (second == 32) & (third == 16)
 }
 
-// Half of a text of two blocks.
-fn half(text: [u8; 32], at: usize) -> [u8; 16]
-    requires { at + 16 ≤ 32 }
-    ensures { result ≡ take 16 (drop at text) }
-{
-    let mut block = [0u8; 16];
-    let end = at + 16;
-    put(&mut block, 0, &text[at..end]);
-    block
-}
-
-fn read_clear(clear: [u8; 32]) -> Opened
-    ensures value { result ≡ opened_text flag_count clear }
+#[tactic(auto, unfolding(crate::specs::Opening::opened_text))]
+fn read_clear(clear: [u8; 32]) -> Contents
+    ensures value { opened_as (Some result) ≡ opened_text flag_count clear }
     ensures counter_le_max_counter { result.counter ≤ max_counter }
 {
-    let first = half(clear, 0);
-    Opened {
-        genuine: true,
+    let (front, back) = clear.split_at(16);
+    let first = array(front);
+    Contents {
         counter: counter_of(first),
         flags: flags_of(first),
         zerofill: filler_is_zero(first),
-        key: half(clear, 16),
+        key: array(back),
     }
 }
 
-// Opens M1 to M3 under the authority's key. M2 is deciphered only where M3 is right.
-pub fn open(authkey: &[u8], m1: &[u8], m2: &[u8], m3: &[u8]) -> Opened
-    ensures value { result ≡ opened flag_count authkey.now m1.now m2.now m3.now }
-    ensures counter_le_max_counter { result.counter ≤ max_counter }
+// Opens M1 to M3 under the authority's key; they hold nothing where a length or M3 is wrong. M2 is deciphered only where M3 is
+// right.
+#[tactic(auto, using(crate::proofs::Opening::stays_closed))]
+pub fn open(authkey: &[u8], m1: &[u8], m2: &[u8], m3: &[u8]) -> Option<Contents>
+    ensures value { opened_as result ≡ opened flag_count authkey.now m1.now m2.now m3.now }
+    ensures counter_le_max_counter { (opened_as result).counter ≤ max_counter }
 {
     if !open_lengths(authkey.len(), m1.len(), m2.len(), m3.len()) {
-        return not_opened();
+        return None;
     }
-    let mut expected = [0u8; 16];
-    write_m3(authkey, m1, m2, &mut expected);
+    let authkey = array(authkey);
+    let expected = build_m3(authkey, array(m1), array(m2));
     if !basics::is_same(m3, &expected) {
-        return not_opened();
+        return None;
     }
-    let k1 = derived(authkey, Constant::KeyUpdateEnc);
+    let k1 = modes::derive(authkey, Constant::KeyUpdateEnc);
     let mut clear = [0u8; 32];
-    modes::cbc_decrypt(&k1, &[0u8; 16], m2, &mut clear);
-    read_clear(clear)
+    modes::cbc_decrypt(&k1, &[0u8; 16], m2, &mut clear).unwrap();
+    Some(read_clear(clear))
 }

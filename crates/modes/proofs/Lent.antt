@@ -1,9 +1,9 @@
 -- Lent buffers: what a test of their lengths tells, a whole one loaded or stored, and the two outcomes of a routine.
 -- The last of these serve every routine of the modes that refuses.
 -- Assumes nothing.
-use mathlib.Core.Path.{◌≡◌, refl, ◌∙◌}
+use mathlib.Core.Path.{◌≡◌, refl, sym, subst, ◌∙◌}
 use mathlib.Core.Bool.{Bool, true, false}
-use mathlib.Core.List.{List}
+use mathlib.Core.List.{List, flatten}
 use mathlib.Core.Logic.{◌⊎◌, inl, inr}
 use Prim.Native.Nat.{ℕ, ◌*◌, ◌%◌, ◌≤◌}
 use native.Mathlib.Omega.{arith}
@@ -15,7 +15,10 @@ use Rattle.laws.proofs.Lengths.{each_right}
 use Rattle.laws.proofs.Paste.{pasted_over}
 use Rattle.laws.proofs.Test.{both}
 use Rattle.basics.specs.Answers.{no_error, general_error}
-use Rattle.modes.specs.Answer.{outcome, three_blocks, cbc_lengths, cmac_lengths, compress_lengths}
+use Rattle.aes.specs.Schedule.{key_expansion}
+use Rattle.modes.proofs.Runs.{Follows}
+use Rattle.modes.specs.Answer.{OfTwoBlocks, OfBlocks, outcome, three_blocks, cbc_lengths, cmac_lengths, compress_lengths}
+use Rattle.modes.specs.Blocks.{blocks, outputs}
 use Rattle.modes.specs.Cmac.{block_count}
 
 -- ---- the tests
@@ -54,6 +57,11 @@ loaded buffer block e long = e ∙ take_all 16 buffer (omega arith)
 pub stored : (buffer block after : List ℕ) → after ≡ paste buffer 0 block 16 → length buffer ≡ 16 → length block ≡ 16 → after ≡ block
 stored buffer block after e long long' = e ∙ pasted_over buffer block 16 long long'
 
+-- what is said of two blocks and of one that is given, of equal ones
+pub carried_over : (P : List ℕ → List ℕ → List ℕ → Type 0) (a a' b b' r r' : List ℕ) → a ≡ a' → b ≡ b' → r' ≡ r → P a b r → P a' b' r'
+carried_over P a a' b b' r r' ea eb er h =
+    subst (λ (x : List ℕ). P x b' r') ea (subst (λ (y : List ℕ). P a y r') eb (subst (λ (z : List ℕ). P a b z) (sym er) h))
+
 -- ---- the two outcomes
 pub answer_refused : (right : Bool) (result before : List ℕ) → right ≡ false → general_error ≡ (outcome right result before).answer
 unfolding outcome
@@ -84,3 +92,33 @@ pub answered : (right : Bool) (result before : List ℕ)
 unfolding outcome
 answered true result before = inl refl
 answered false result before = inr (refl, refl)
+
+-- what is left where it is refused, and where it is done, is the outcome
+pub in_both_ways : (right : Bool) (result before after : List ℕ) (answer : ℕ) → (right ≡ false → (answer ≡ general_error) × (after ≡ before))
+    → (right ≡ true → (answer ≡ no_error) × (after ≡ result))
+    → (answer ≡ (outcome right result before).answer) × (after ≡ (outcome right result before).output)
+unfolding outcome
+in_both_ways true result before after answer refused done = done refl
+in_both_ways false result before after answer refused done = refused refl
+
+-- what a routine on three blocks leaves, where its step gives what a rule says
+module _ (gives : List ℕ → List ℕ → List ℕ → Type 0) (rule : List ℕ → List ℕ → List ℕ) (first second before after : List ℕ) (answer : ℕ)
+    (left : OfTwoBlocks gives first second before answer after) (as_ruled : gives first second after → after ≡ rule first second) where
+  abbrev right : Bool
+  right = three_blocks (length first) (length second) (length before)
+
+  pub of_two : (answer ≡ (outcome right (rule first second) before).answer) × (after ≡ (outcome right (rule first second) before).output)
+  of_two = in_both_ways right (rule first second) before after answer left.refused (λ e. let done = left.done e in (done.0, as_ruled done.1))
+
+-- and one that goes through a text block by block, where its step gives what two rules say
+module _ (gives : List ℕ → List ℕ → List ℕ → List ℕ × List ℕ → Type 0) (out next : List ℕ → List ℕ → List ℕ) (key iv text before after : List ℕ)
+    (answer : ℕ) (left : OfBlocks gives key iv text before answer after) (as_ruled : Follows (gives (key_expansion key)) out next) where
+  abbrev right_lengths : Bool
+  right_lengths = cbc_lengths (length key) (length iv) (length text) (length before)
+
+  abbrev whole : List ℕ
+  whole = flatten (outputs out next iv (blocks text))
+
+  pub of_blocks : (answer ≡ (outcome right_lengths whole before).answer) × (after ≡ (outcome right_lengths whole before).output)
+  of_blocks =
+      in_both_ways right_lengths whole before after answer left.refused (λ e. let done = left.done e in (done.0, done.1 out next as_ruled))

@@ -2,6 +2,7 @@ pub mod Blocks
 pub mod Cbc
 pub mod Compression
 pub mod Counted
+pub mod Folds
 pub mod InBytes
 pub mod Labels
 pub mod Lent

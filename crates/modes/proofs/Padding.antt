@@ -2,11 +2,12 @@
 -- Assumes nothing.
 use mathlib.Core.Path.{◌≡◌, sym, ap, ap₂, ◌∙◌, subst}
 use mathlib.Core.List.{List, ◌∷◌, ◌++◌}
-use Prim.Native.Nat.{ℕ, suc, ◌+◌, ◌-◌, ◌*◌, ◌/◌, ◌%◌, ◌^◌, ◌<◌, max}
+use Prim.Native.Nat.{ℕ, suc, ◌+◌, ◌-◌, ◌*◌, ◌/◌, ◌%◌, ◌^◌, ◌≤◌, ◌<◌, max}
 use native.Mathlib.Nat.{mod-eq_of_lt, pow-suc}
 use native.Mathlib.Omega.{arith}
 use lib.Bits.{bit_or, or_step, or_zero_r}
-use lib.ListN.{length, take, set, replicate}
+use lib.ListN.{length, take, drop, set, replicate}
+use Rattle.std.proofs.lemmas.List.{drop-replicate}
 use lib.Pow.{shl_lt, shr_lt, shr-shr}
 use Rattle.laws.proofs.Zeros.{Filled, put_next}
 use Rattle.aes.specs.State.{byte}
@@ -41,3 +42,7 @@ pad_steps r x p i v h long whole inv ev =
     let last : 16 - suc (r / 8) ≡ 15 - r / 8 = omega arith in
     put_next x p 16 (r / 8) v (omega arith) (omega arith) (subst (λ (k : ℕ). Filled 16 x k p) whole inv)
     ∙ ap₂ (λ (b k : ℕ). take (r / 8) x ++ (b ∷ replicate k 0)) ev last
+
+-- the whole bytes, copied into a block of zeros
+pub whole_bytes : (x copy : List ℕ) (n : ℕ) → n ≤ 16 → copy ≡ take n x → Filled 16 x n (copy ++ drop n (replicate 16 0))
+whole_bytes x copy n h e = ap₂ (λ (a b : List ℕ). a ++ b) e (drop-replicate n 16 0)

@@ -5,7 +5,6 @@ use mathlib.Core.List.{List}
 use Prim.Native.Nat.{ℕ, ◌+◌, ◌*◌, ◌/◌, ◌%◌, ◌<◌, ◌≤◌}
 use native.Mathlib.Omega.{arith}
 use lib.Bits.{bit_or, or_shifted}
-use lib.ListN.{length, get_or-eq_default}
 use Rattle.laws.proofs.Test.{where_equal, where_other}
 use Rattle.field.specs.Field.{bit}
 use Rattle.aes.specs.State.{byte}
@@ -17,10 +16,6 @@ pub with_carry : (a b : ℕ) → b < 256 → bit_or (a * 2 % 256) (b / 128) ≡ 
 with_carry a b h =
     let even : a * 2 % 256 ≡ a % 128 * 2 = omega arith in
     rw even (or_shifted (a % 128) 1 (b / 128) (omega arith))
-
--- after the last byte there is none
-pub no_carry : (x : List ℕ) (i : ℕ) → length x ≡ i + 1 → byte x i * 2 % 256 ≡ byte x i * 2 % 256 + byte x (i + 1) / 128
-no_carry x i h = let none : byte x (i + 1) ≡ 0 = get_or-eq_default x 0 (omega arith) in rw none (omega arith)
 
 -- by the highest bit
 pub plain_double : (x : List ℕ) → byte x 0 < 128 → shift_left x ≡ double x

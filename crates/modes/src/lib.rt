@@ -8,18 +8,21 @@
 mod constants;
 
 ghost use Rattle.std.specs.Prelude.{◌≡◌, ◌+◌, ◌*◌, ◌%◌, ◌≤◌, ◌<◌, length, take, drop};
+ghost use Rattle.std.specs.List.{FoldsTo};
 ghost use mathlib.Core.List.{◌++◌, foldl};
 ghost use Rattle.std.proofs.Math.Seq.{paste};
 ghost use Rattle.aes.specs.Cipher.{cipher, cipher_with, inv_cipher_with};
-ghost use Rattle.modes.specs.Answer.{three_blocks, cbc_lengths, cmac_lengths, compress_lengths};
+ghost use Rattle.basics.specs.Answers.{answer_of};
+ghost use Rattle.modes.specs.Answer.{OfTwoBlocks, OfBlocks, three_blocks, cbc_lengths, cmac_lengths, compress_lengths};
 ghost use Rattle.modes.specs.Blocks.{◌⊕◌, blocks};
-ghost use Rattle.modes.specs.Cbc.{chained, cbc_encrypt, cbc_decrypt};
+ghost use Rattle.modes.specs.Cbc.{chained, unchained};
 ghost use Rattle.modes.specs.Cmac.{shift_left, double, k1, k2, cut, padded, block_count, last_block, cmac, text_mac};
-ghost use Rattle.modes.specs.Compression.{compressed, compress_from, compress, kdf};
+ghost use Rattle.modes.specs.Compression.{compressed, compress, kdf};
 ghost use Rattle.modes.specs.Constants.{constant_of};
 ghost use Rattle.modes.specs.Routines.{ecb_encryption, ecb_decryption, cbc_encryption, cbc_decryption, authentication, compression, derivation};
 
-use basics::{GENERAL_ERROR, NO_ERROR};
+use basics::Refusal;
+use std::array;
 
 // ---- blocks and buffers
 
@@ -28,37 +31,34 @@ fn load(text: &[u8], at: usize) -> [u8; 16]
     requires { at + 16 ≤ length text.now }
     ensures { result ≡ take 16 (drop at text.now) }
 {
-    let mut block = [0u8; 16];
-    let mut i: usize = 0;
-    while i < 16 {
-        block[i] = text[at + i];
-        i += 1;
-    }
-    block
+    array::from_fn(|i| text[at + i])
 }
 
 fn store(text: &mut [u8], at: usize, block: [u8; 16])
     requires { at + 16 ≤ length text.old }
     ensures { text.new ≡ paste text.old at block 16 }
 {
-    let mut i: usize = 0;
-    while i < 16 {
-        text[at + i] = block[i];
-        i += 1;
-    }
+    text[at..at + 16].copy_from_slice(&block);
 }
 
 // The exclusive or of two blocks.
 fn add(a: [u8; 16], b: [u8; 16]) -> [u8; 16]
     ensures { result ≡ a ⊕ b }
 {
-    let mut sum = [0u8; 16];
-    let mut i: usize = 0;
-    while i < 16 {
-        sum[i] = a[i] ^ b[i];
-        i += 1;
+    array::from_fn(|i| a[i] ^ b[i])
+}
+
+// What a step carries from block to block of a text, from a start on. Bytes after its last whole block are left out.
+fn carry<F: Fn([u8; 16], [u8; 16]) -> [u8; 16]>(step: F, start: [u8; 16], text: &[u8]) -> [u8; 16]
+    requires { F.IsAlwaysCallable step }
+    ensures { FoldsTo (F.post step) start (blocks text.now) result }
+{
+    let mut carried = start;
+    for i in 0..text.len() / 16 {
+        let next = step(carried, load(text, 16 * i));
+        carried = next;
     }
-    sum
+    carried
 }
 
 // Three buffers of a block each: ECB and the key derivation take no others.
@@ -68,108 +68,109 @@ pub fn three_blocks(first: usize, second: usize, third: usize) -> bool
     (first == 16) & (second == 16) & (third == 16)
 }
 
-// ---- ECB, one block
-
-pub fn ecb_encrypt(key: &[u8], input: &[u8], output: &mut [u8]) -> u8
-    ensures value { result ≡ (ecb_encryption key.now input.now output.old).answer }
-    ensures output_after { output.new ≡ (ecb_encryption key.now input.now output.old).output }
+// What a step gives of two blocks, written to the third buffer.
+fn of_two_blocks<F: Fn([u8; 16], [u8; 16]) -> [u8; 16]>(
+    step: F,
+    first: &[u8],
+    second: &[u8],
+    output: &mut [u8],
+) -> Result<(), Refusal>
+    requires { F.IsAlwaysCallable step }
+    ensures { OfTwoBlocks (F.post step) first.now second.now output.old (answer_of result) output.new }
 {
-    if !three_blocks(key.len(), input.len(), output.len()) {
-        return GENERAL_ERROR;
+    if !three_blocks(first.len(), second.len(), output.len()) {
+        return Err(Refusal::GeneralError);
     }
-    let result = aes::encrypt(load(key, 0), load(input, 0));
-    store(output, 0, result);
-    NO_ERROR
+    let given = step(load(first, 0), load(second, 0));
+    store(output, 0, given);
+    Ok(())
 }
 
-pub fn ecb_decrypt(key: &[u8], input: &[u8], output: &mut [u8]) -> u8
-    ensures value { result ≡ (ecb_decryption key.now input.now output.old).answer }
+// ---- ECB, one block
+
+pub fn ecb_encrypt(key: &[u8], input: &[u8], output: &mut [u8]) -> Result<(), Refusal>
+    ensures value { answer_of result ≡ (ecb_encryption key.now input.now output.old).answer }
+    ensures output_after { output.new ≡ (ecb_encryption key.now input.now output.old).output }
+{
+    of_two_blocks(aes::encrypt, key, input, output)
+}
+
+pub fn ecb_decrypt(key: &[u8], input: &[u8], output: &mut [u8]) -> Result<(), Refusal>
+    ensures value { answer_of result ≡ (ecb_decryption key.now input.now output.old).answer }
     ensures output_after { output.new ≡ (ecb_decryption key.now input.now output.old).output }
 {
-    if !three_blocks(key.len(), input.len(), output.len()) {
-        return GENERAL_ERROR;
-    }
-    let result = aes::decrypt(load(key, 0), load(input, 0));
-    store(output, 0, result);
-    NO_ERROR
+    of_two_blocks(aes::decrypt, key, input, output)
 }
 
 // ---- CBC
 
+#[tactic(auto, unfolding(crate::specs::Answer::cbc_lengths))]
 pub fn cbc_lengths(key: usize, iv: usize, input: usize, output: usize) -> bool
     ensures { result ≡ cbc_lengths key iv input output }
 {
-    if key != 16 {
-        return false;
-    }
-    if iv != 16 {
-        return false;
-    }
-    if input % 16 != 0 {
-        return false;
-    }
-    if input < 16 {
-        return false;
-    }
-    if input > 16 * 4096 {
-        return false;
-    }
-    output == input
+    key == 16 && iv == 16 && input % 16 == 0 && 16 <= input && input <= 16 * 4096 && output == input
 }
 
-// All blocks of the input, under any schedule.
-fn encrypt_blocks(w: &[u8; 176], iv: [u8; 16], input: &[u8], output: &mut [u8])
-    requires { (length input.now % 16 ≡ 0) × (length output.old ≡ length input.now) }
-    ensures { output.new ≡ cbc_encrypt (cipher_with w.now) iv input.now }
+// CBC in either direction. From the schedule, what is carried from the block before, and a block, a step makes the block to write
+// and what to carry on.
+fn block_by_block<F: Fn(&[u8; 176], [u8; 16], [u8; 16]) -> ([u8; 16], [u8; 16])>(
+    step: F,
+    key: &[u8],
+    iv: &[u8],
+    input: &[u8],
+    output: &mut [u8],
+) -> Result<(), Refusal>
+    requires { F.IsAlwaysCallable step }
+    ensures { OfBlocks (λ w carried block given. (p : _) × (p.now ≡ w) × F.post step p carried block given)
+        key.now iv.now input.now output.old (answer_of result) output.new }
 {
-    let mut previous = iv;
-    let mut at: usize = 0;
-    while at < input.len() {
-        let p = load(input, at);
-        let c = aes::encrypt_with(w, add(p, previous));
-        previous = c;
-        store(output, at, previous);
-        at += 16;
+    if !cbc_lengths(key.len(), iv.len(), input.len(), output.len()) {
+        return Err(Refusal::GeneralError);
     }
+    let w = aes::expand_key(load(key, 0));
+    let mut carried = load(iv, 0);
+    for i in 0..input.len() / 16 {
+        let (written, next) = step(&w, carried, load(input, 16 * i));
+        store(output, 16 * i, written);
+        carried = next;
+    }
+    Ok(())
 }
 
-fn decrypt_blocks(w: &[u8; 176], iv: [u8; 16], input: &[u8], output: &mut [u8])
-    requires { (length input.now % 16 ≡ 0) × (length output.old ≡ length input.now) }
-    ensures { output.new ≡ cbc_decrypt (inv_cipher_with w.now) iv input.now }
-{
-    let mut previous = iv;
-    let mut at: usize = 0;
-    while at < input.len() {
-        let block = load(input, at);
-        let p = add(aes::decrypt_with(w, block), previous);
-        store(output, at, p);
-        previous = block;
-        at += 16;
-    }
-}
-
-pub fn cbc_encrypt(key: &[u8], iv: &[u8], input: &[u8], output: &mut [u8]) -> u8
-    ensures value { result ≡ (cbc_encryption key.now iv.now input.now output.old).answer }
+pub fn cbc_encrypt(key: &[u8], iv: &[u8], input: &[u8], output: &mut [u8]) -> Result<(), Refusal>
+    ensures value { answer_of result ≡ (cbc_encryption key.now iv.now input.now output.old).answer }
     ensures output_after { output.new ≡ (cbc_encryption key.now iv.now input.now output.old).output }
 {
-    if !cbc_lengths(key.len(), iv.len(), input.len(), output.len()) {
-        return GENERAL_ERROR;
-    }
-    let w = aes::expand_key(load(key, 0));
-    encrypt_blocks(&w, load(iv, 0), input, output);
-    NO_ERROR
+    block_by_block(
+        |w, previous, p|
+            ensures { result ≡ (chained (cipher_with w.now) previous p, chained (cipher_with w.now) previous p) }
+        {
+            let c = aes::encrypt_with(w, add(p, previous));
+            (c, c)
+        },
+        key,
+        iv,
+        input,
+        output,
+    )
 }
 
-pub fn cbc_decrypt(key: &[u8], iv: &[u8], input: &[u8], output: &mut [u8]) -> u8
-    ensures value { result ≡ (cbc_decryption key.now iv.now input.now output.old).answer }
+pub fn cbc_decrypt(key: &[u8], iv: &[u8], input: &[u8], output: &mut [u8]) -> Result<(), Refusal>
+    ensures value { answer_of result ≡ (cbc_decryption key.now iv.now input.now output.old).answer }
     ensures output_after { output.new ≡ (cbc_decryption key.now iv.now input.now output.old).output }
 {
-    if !cbc_lengths(key.len(), iv.len(), input.len(), output.len()) {
-        return GENERAL_ERROR;
-    }
-    let w = aes::expand_key(load(key, 0));
-    decrypt_blocks(&w, load(iv, 0), input, output);
-    NO_ERROR
+    block_by_block(
+        |w, previous, c|
+            ensures { result ≡ (unchained (inv_cipher_with w.now) previous c, c) }
+        {
+            let p = add(aes::decrypt_with(w, c), previous);
+            (p, c)
+        },
+        key,
+        iv,
+        input,
+        output,
+    )
 }
 
 // ---- CMAC
@@ -178,14 +179,7 @@ pub fn cbc_decrypt(key: &[u8], iv: &[u8], input: &[u8], output: &mut [u8]) -> u8
 fn shift_left(x: [u8; 16]) -> [u8; 16]
     ensures { result ≡ shift_left x }
 {
-    let mut shifted = [0u8; 16];
-    let mut i: usize = 0;
-    while i < 15 {
-        shifted[i] = x[i] << 1 | x[i + 1] >> 7;
-        i += 1;
-    }
-    shifted[15] = x[15] << 1;
-    shifted
+    array::from_fn(|i| x[i] << 1 | basics::byte_at(&x, i + 1) >> 7)
 }
 
 // What is added where a bit falls out: x^7 + x^2 + x + 1, which is x^128 in the field.
@@ -230,11 +224,7 @@ fn pad(r: usize, x: [u8; 16]) -> [u8; 16]
 {
     let whole = r / 8;
     let mut p = [0u8; 16];
-    let mut i: usize = 0;
-    while i < whole {
-        p[i] = x[i];
-        i += 1;
-    }
+    p[..whole].copy_from_slice(&x[..whole]);
     p[whole] = cut_byte(r % 8, x[whole]);
     p
 }
@@ -255,14 +245,13 @@ fn last_block(w: &[u8; 176], r: usize, x: [u8; 16]) -> [u8; 16]
 fn chain(w: &[u8; 176], start: [u8; 16], text: &[u8]) -> [u8; 16]
     ensures { result ≡ foldl (chained (cipher_with w.now)) start (blocks text.now) }
 {
-    let mut c = start;
-    let mut at: usize = 0;
-    while text.len() - at >= 16 {
-        let next = aes::encrypt_with(w, add(load(text, at), c));
-        c = next;
-        at += 16;
-    }
-    c
+    carry(
+        |before, block|
+            ensures { result ≡ chained (cipher_with w.entry.now) before block }
+        { aes::encrypt_with(w, add(block, before)) },
+        start,
+        text,
+    )
 }
 
 fn block_count(bits: u64) -> usize
@@ -273,19 +262,11 @@ fn block_count(bits: u64) -> usize
     if n == 0 { 1 } else { n }
 }
 
+#[tactic(auto, unfolding(crate::specs::Answer::cmac_lengths))]
 pub fn cmac_lengths(key: usize, bits: u64, message: usize, output: usize) -> bool
     ensures { result ≡ cmac_lengths key bits message output }
 {
-    if key != 16 {
-        return false;
-    }
-    if bits > 524288 {
-        return false;
-    }
-    if message != 16 * block_count(bits) {
-        return false;
-    }
-    output == 16
+    key == 16 && bits <= 524288 && message == 16 * block_count(bits) && output == 16
 }
 
 // The MAC from what the blocks before the last gave, and the last, r bits of which count.
@@ -306,17 +287,17 @@ fn mac(w: &[u8; 176], bits: u64, message: &[u8]) -> [u8; 16]
     finish(w, c, bits as usize - 8 * at, load(message, at))
 }
 
-pub fn cmac(key: &[u8], bits: u64, message: &[u8], output: &mut [u8]) -> u8
-    ensures value { result ≡ (authentication key.now bits message.now output.old).answer }
+pub fn cmac(key: &[u8], bits: u64, message: &[u8], output: &mut [u8]) -> Result<(), Refusal>
+    ensures value { answer_of result ≡ (authentication key.now bits message.now output.old).answer }
     ensures output_after { output.new ≡ (authentication key.now bits message.now output.old).output }
 {
     if !cmac_lengths(key.len(), bits, message.len(), output.len()) {
-        return GENERAL_ERROR;
+        return Err(Refusal::GeneralError);
     }
     let w = aes::expand_key(load(key, 0));
     let result = mac(&w, bits, message);
     store(output, 0, result);
-    NO_ERROR
+    Ok(())
 }
 
 // The MAC of a first block and of a text of whole bytes after it, of any length, which is read where it lies.
@@ -346,19 +327,6 @@ fn compress_block(out: [u8; 16], x: [u8; 16]) -> [u8; 16]
     add(add(aes::encrypt(out, x), x), out)
 }
 
-fn compress_blocks(start: [u8; 16], text: &[u8]) -> [u8; 16]
-    ensures { result ≡ compress_from start text.now }
-{
-    let mut out = start;
-    let mut at: usize = 0;
-    while text.len() - at >= 16 {
-        let next = compress_block(out, load(text, at));
-        out = next;
-        at += 16;
-    }
-    out
-}
-
 fn compress_lengths(start: usize, text: usize, output: usize) -> bool
     ensures { result ≡ compress_lengths start text output }
 {
@@ -366,16 +334,16 @@ fn compress_lengths(start: usize, text: usize, output: usize) -> bool
 }
 
 // The compression of a text in whole blocks, carried on from a start, which is an earlier output or zero.
-pub fn compress(start: &[u8], text: &[u8], output: &mut [u8]) -> u8
-    ensures value { result ≡ (compression start.now text.now output.old).answer }
+pub fn compress(start: &[u8], text: &[u8], output: &mut [u8]) -> Result<(), Refusal>
+    ensures value { answer_of result ≡ (compression start.now text.now output.old).answer }
     ensures output_after { output.new ≡ (compression start.now text.now output.old).output }
 {
     if !compress_lengths(start.len(), text.len(), output.len()) {
-        return GENERAL_ERROR;
+        return Err(Refusal::GeneralError);
     }
-    let result = compress_blocks(load(start, 0), text);
+    let result = carry(compress_block, load(start, 0), text);
     store(output, 0, result);
-    NO_ERROR
+    Ok(())
 }
 
 // Two blocks, from zero.
@@ -386,16 +354,11 @@ fn compress_two(a: [u8; 16], b: [u8; 16]) -> [u8; 16]
 }
 
 // The key that is derived from a key and any constant.
-pub fn kdf(key: &[u8], constant: &[u8], output: &mut [u8]) -> u8
-    ensures value { result ≡ (derivation key.now constant.now output.old).answer }
+pub fn kdf(key: &[u8], constant: &[u8], output: &mut [u8]) -> Result<(), Refusal>
+    ensures value { answer_of result ≡ (derivation key.now constant.now output.old).answer }
     ensures output_after { output.new ≡ (derivation key.now constant.now output.old).output }
 {
-    if !three_blocks(key.len(), constant.len(), output.len()) {
-        return GENERAL_ERROR;
-    }
-    let result = compress_two(load(key, 0), load(constant, 0));
-    store(output, 0, result);
-    NO_ERROR
+    of_two_blocks(compress_two, key, constant, output)
 }
 
 // The specification's constants by their names there, without the ending _C.

@@ -1,12 +1,16 @@
 -- Making over a record: it answers as making does; a success leaves what making hands out, and a refusal the record as it was.
 -- Assumes nothing.
-use mathlib.Core.Path.{◌≡◌, refl, sym, ◌∙◌}
+use mathlib.Core.Path.{◌≡◌, refl, sym, ap, ◌∙◌}
 use mathlib.Core.List.{List, []}
 use Prim.Native.Nat.{ℕ}
 use lib.ListN.{length}
-use Rattle.basics.specs.Answers.{no_error}
+use Rattle.std.specs.Prelude.{Result, Ok, Err}
+use Rattle.std.specs.Result.{result_unwrap_or}
+use Rattle.basics.specs.Answers.{no_error, answer_of}
+use Rattle.basics.specs.declared.Refusal.{Refusal}
+use Rattle.basics.proofs.Faults.{never_zero}
 use Rattle.device.specs.Made.{blank, fresh}
-use Rattle.device.specs.Outcome.{Outcome, refused, done}
+use Rattle.device.specs.Outcome.{Outcome, outcome, refused, done}
 use Rattle.device.specs.declared.Device.{Device}
 use Rattle.device.proofs.Account.{where_refused, where_done, same_answer}
 use Rattle.commands.specs.Commands.{make_answer, make}
@@ -36,3 +40,11 @@ module _ (before : Device) (uid secret seed : List ℕ) where
   unfolding make make_anew
   success_alike zero =
       sym (where_done _ answer made (λ n. refused n blank []) answer_is zero) ∙ where_done _ answer made (λ n. refused n before []) answer_is zero
+
+  -- what making hands out, kept over the record
+  pub made_over : (reply : Result Device Refusal) → outcome (answer_of reply) (result_unwrap_or reply blank) 0 [] ≡ make uid secret seed
+      → outcome (answer_of reply) (result_unwrap_or reply before) 0 [] ≡ make_anew before uid secret seed
+  made_over (Ok device) e = e ∙ success_alike (sym (ap (λ (o : Outcome). o.answer) e))
+  made_over (Err refusal) e =
+      let answer = ap (λ (o : Outcome). o.answer) e in
+      ap (λ (n : ℕ). refused n before []) answer ∙ refusal_stays (λ zero. never_zero refusal (answer ∙ zero))

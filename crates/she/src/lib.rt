@@ -5,7 +5,10 @@
 // promises don't speak of that: each is the core's own definition, of the number as it came in. So slot 0x104 is no slot here.
 #![tactic(auto)]
 
-ghost use Rattle.std.specs.Prelude.{◌≡◌, ◌∷◌, []};
+ghost use mir.Val.{bool_byte};
+ghost use Rattle.std.specs.Prelude.{false, ◌≡◌, ◌∷◌, []};
+ghost use Rattle.std.specs.Result.{result_unwrap_or};
+ghost use Rattle.basics.specs.Answers.{answer_of};
 ghost use Rattle.basics.specs.Wide.{saturated};
 ghost use Rattle.modes.specs.Routines.{ecb_encryption, ecb_decryption, cbc_encryption, cbc_decryption, authentication, derivation};
 ghost use Rattle.message.specs.Flags.{flag_count};
@@ -18,18 +21,16 @@ ghost use Rattle.load.specs.Load.{load_key};
 ghost use Rattle.load.specs.Export.{export_ram_key};
 ghost use Rattle.she.specs.She.{make_anew};
 
-use basics::{NO_ERROR, to_byte};
-use device::{Device, Reply};
+use basics::{Refusal, answer_of, store, to_byte};
+use device::Device;
+use message::Update;
 
 // A counter as the core takes it.
+#[tactic(auto, unfolding(basics::specs::Wide::saturated))]
 fn to_counter(number: u64) -> u32
     ensures { result ≡ saturated 0xffffffff number }
 {
-    if number > 0xffffffff {
-        0xffffffff
-    } else {
-        number as u32
-    }
+    u32::try_from(number).unwrap_or(u32::MAX)
 }
 
 // ---- algorithms
@@ -39,7 +40,7 @@ pub extern "C" fn she_aes_encrypt(key: &[u8], block: &[u8], output: &mut [u8]) -
     ensures value { result ≡ (ecb_encryption key.now block.now output.old).answer }
     ensures output_after { output.new ≡ (ecb_encryption key.now block.now output.old).output }
 {
-    modes::ecb_encrypt(key, block, output)
+    answer_of(modes::ecb_encrypt(key, block, output))
 }
 
 #[unsafe(no_mangle)]
@@ -47,7 +48,7 @@ pub extern "C" fn she_aes_decrypt(key: &[u8], block: &[u8], output: &mut [u8]) -
     ensures value { result ≡ (ecb_decryption key.now block.now output.old).answer }
     ensures output_after { output.new ≡ (ecb_decryption key.now block.now output.old).output }
 {
-    modes::ecb_decrypt(key, block, output)
+    answer_of(modes::ecb_decrypt(key, block, output))
 }
 
 #[unsafe(no_mangle)]
@@ -55,7 +56,7 @@ pub extern "C" fn she_cbc_encrypt(key: &[u8], iv: &[u8], input: &[u8], output: &
     ensures value { result ≡ (cbc_encryption key.now iv.now input.now output.old).answer }
     ensures output_after { output.new ≡ (cbc_encryption key.now iv.now input.now output.old).output }
 {
-    modes::cbc_encrypt(key, iv, input, output)
+    answer_of(modes::cbc_encrypt(key, iv, input, output))
 }
 
 #[unsafe(no_mangle)]
@@ -63,7 +64,7 @@ pub extern "C" fn she_cbc_decrypt(key: &[u8], iv: &[u8], input: &[u8], output: &
     ensures value { result ≡ (cbc_decryption key.now iv.now input.now output.old).answer }
     ensures output_after { output.new ≡ (cbc_decryption key.now iv.now input.now output.old).output }
 {
-    modes::cbc_decrypt(key, iv, input, output)
+    answer_of(modes::cbc_decrypt(key, iv, input, output))
 }
 
 #[unsafe(no_mangle)]
@@ -71,7 +72,7 @@ pub extern "C" fn she_cmac(key: &[u8], bits: u64, message: &[u8], output: &mut [
     ensures value { result ≡ (authentication key.now bits message.now output.old).answer }
     ensures output_after { output.new ≡ (authentication key.now bits message.now output.old).output }
 {
-    modes::cmac(key, bits, message, output)
+    answer_of(modes::cmac(key, bits, message, output))
 }
 
 #[unsafe(no_mangle)]
@@ -79,7 +80,7 @@ pub extern "C" fn she_kdf(key: &[u8], constant: &[u8], output: &mut [u8]) -> u8
     ensures value { result ≡ (derivation key.now constant.now output.old).answer }
     ensures output_after { output.new ≡ (derivation key.now constant.now output.old).output }
 {
-    modes::kdf(key, constant, output)
+    answer_of(modes::kdf(key, constant, output))
 }
 
 // ---- key messages, for the sender
@@ -99,18 +100,16 @@ pub extern "C" fn she_write_key(
 ) -> u8
     ensures { messages result m1.new m2.new m3.new ≡ full_form uid.now target authority authkey.now counter flags key.now m1.old m2.old m3.old }
 {
-    message::write_key(
+    let update = Update {
         uid,
-        to_byte(target),
-        to_byte(authority),
+        target: to_byte(target),
+        authority: to_byte(authority),
         authkey,
-        to_counter(counter),
-        to_byte(flags),
+        counter: to_counter(counter),
+        flags: to_byte(flags),
         key,
-        m1,
-        m2,
-        m3,
-    )
+    };
+    answer_of(update.write(m1, m2, m3))
 }
 
 #[unsafe(no_mangle)]
@@ -127,7 +126,7 @@ pub extern "C" fn she_write_key_short(
 ) -> u8
     ensures { messages result m1.new m2.new m3.new ≡ short_form uid.now target authority authkey.now counter key.now m1.old m2.old m3.old }
 {
-    message::write_key_short(
+    answer_of(message::write_key_short(
         uid,
         to_byte(target),
         to_byte(authority),
@@ -137,7 +136,7 @@ pub extern "C" fn she_write_key_short(
         m1,
         m2,
         m3,
-    )
+    ))
 }
 
 #[unsafe(no_mangle)]
@@ -153,7 +152,7 @@ pub extern "C" fn she_fleet_sheet(
 ) -> u8
     ensures { messages result m1.new m2.new m3.new ≡ fleet_sheet target authority authkey.now counter key.now m1.old m2.old m3.old }
 {
-    message::fleet_sheet(
+    answer_of(message::fleet_sheet(
         to_byte(target),
         to_byte(authority),
         authkey,
@@ -162,7 +161,7 @@ pub extern "C" fn she_fleet_sheet(
         m1,
         m2,
         m3,
-    )
+    ))
 }
 
 #[unsafe(no_mangle)]
@@ -177,7 +176,7 @@ pub extern "C" fn she_write_proof(
 ) -> u8
     ensures { proof result m4.new m5.new ≡ proof_form uid.now target authority counter key.now m4.old m5.old }
 {
-    message::write_proof(
+    answer_of(message::write_proof(
         uid,
         to_byte(target),
         to_byte(authority),
@@ -185,37 +184,55 @@ pub extern "C" fn she_write_proof(
         key,
         m4,
         m5,
-    )
+    ))
 }
 
-// ---- the device by value: commands with wide numbers, those with a verdict or a status, and making over a record
+// ---- the device by value: commands with wide numbers, and making over a record
 
-fn enc_ecb(device: Device, slot: u32, input: &[u8], output: &mut [u8]) -> Reply
-    ensures { outcome result.answer result.device 0 (output.new ∷ []) ≡ perform (enc_ecb slot input.now output.old) device }
+fn enc_ecb(device: Device, slot: u32, input: &[u8], output: &mut [u8]) -> Result<(), Refusal>
+    ensures { outcome (answer_of result) device 0 (output.new ∷ []) ≡ perform (enc_ecb slot input.now output.old) device }
 {
     commands::enc_ecb(device, to_byte(slot), input, output)
 }
 
-fn dec_ecb(device: Device, slot: u32, input: &[u8], output: &mut [u8]) -> Reply
-    ensures { outcome result.answer result.device 0 (output.new ∷ []) ≡ perform (dec_ecb slot input.now output.old) device }
+fn dec_ecb(device: Device, slot: u32, input: &[u8], output: &mut [u8]) -> Result<(), Refusal>
+    ensures { outcome (answer_of result) device 0 (output.new ∷ []) ≡ perform (dec_ecb slot input.now output.old) device }
 {
     commands::dec_ecb(device, to_byte(slot), input, output)
 }
 
-fn enc_cbc(device: Device, slot: u32, iv: &[u8], input: &[u8], output: &mut [u8]) -> Reply
-    ensures { outcome result.answer result.device 0 (output.new ∷ []) ≡ perform (enc_cbc slot iv.now input.now output.old) device }
+fn enc_cbc(
+    device: Device,
+    slot: u32,
+    iv: &[u8],
+    input: &[u8],
+    output: &mut [u8],
+) -> Result<(), Refusal>
+    ensures { outcome (answer_of result) device 0 (output.new ∷ []) ≡ perform (enc_cbc slot iv.now input.now output.old) device }
 {
     commands::enc_cbc(device, to_byte(slot), iv, input, output)
 }
 
-fn dec_cbc(device: Device, slot: u32, iv: &[u8], input: &[u8], output: &mut [u8]) -> Reply
-    ensures { outcome result.answer result.device 0 (output.new ∷ []) ≡ perform (dec_cbc slot iv.now input.now output.old) device }
+fn dec_cbc(
+    device: Device,
+    slot: u32,
+    iv: &[u8],
+    input: &[u8],
+    output: &mut [u8],
+) -> Result<(), Refusal>
+    ensures { outcome (answer_of result) device 0 (output.new ∷ []) ≡ perform (dec_cbc slot iv.now input.now output.old) device }
 {
     commands::dec_cbc(device, to_byte(slot), iv, input, output)
 }
 
-fn generate_mac(device: Device, slot: u32, bits: u64, message: &[u8], mac: &mut [u8]) -> Reply
-    ensures { outcome result.answer result.device 0 (mac.new ∷ []) ≡ perform (generate_mac slot bits message.now mac.old) device }
+fn generate_mac(
+    device: Device,
+    slot: u32,
+    bits: u64,
+    message: &[u8],
+    mac: &mut [u8],
+) -> Result<(), Refusal>
+    ensures { outcome (answer_of result) device 0 (mac.new ∷ []) ≡ perform (generate_mac slot bits message.now mac.old) device }
 {
     commands::generate_mac(device, to_byte(slot), bits, message, mac)
 }
@@ -227,95 +244,54 @@ fn verify_mac(
     message: &[u8],
     mac: &[u8],
     macbits: u32,
-    verdict: &mut u8,
-) -> Reply
-    ensures { outcome result.answer result.device verdict.new [] ≡ perform (verify_mac slot bits message.now mac.now macbits) device }
+) -> Result<bool, Refusal>
+    ensures { outcome (answer_of result) device (bool_byte (result_unwrap_or result false)) [] ≡ perform (verify_mac slot bits message.now mac.now macbits) device }
 {
-    let found = commands::verify_mac(device, to_byte(slot), bits, message, mac, to_byte(macbits));
-    let after = found.device;
-    *verdict = found.verdict;
-    Reply {
-        answer: found.answer,
-        device: after,
-    }
-}
-
-fn get_status(device: Device, status: &mut u8) -> Reply
-    ensures { outcome result.answer result.device status.new [] ≡ perform get_status device }
-{
-    let found = commands::get_status(device);
-    let after = found.device;
-    *status = found.status;
-    Reply {
-        answer: found.answer,
-        device: after,
-    }
+    commands::verify_mac(device, to_byte(slot), bits, message, mac, to_byte(macbits))
 }
 
 // Where making is refused the record stays, and is not blanked.
-fn make(device: Device, uid: &[u8], secret: &[u8], seed: &[u8]) -> Reply
-    ensures { outcome result.answer result.device 0 [] ≡ make_anew device uid.now secret.now seed.now }
+fn make(device: Device, uid: &[u8], secret: &[u8], seed: &[u8]) -> Result<Device, Refusal>
+    ensures { outcome (answer_of result) (result_unwrap_or result device) 0 [] ≡ make_anew device uid.now secret.now seed.now }
 {
-    let made = commands::make(uid, secret, seed);
-    if made.answer != NO_ERROR {
-        return Reply {
-            answer: made.answer,
-            device: device,
-        };
-    }
-    made
+    commands::make(uid, secret, seed)
 }
 
-// ---- the device in place: each reads the record, calls the command once, stores the record and returns the answer
+// ---- the device in place: each calls the command once on what the record holds, stores what comes of it, and answers
 
 #[unsafe(no_mangle)]
 pub extern "C" fn she_make(device: &mut Device, uid: &[u8], secret: &[u8], seed: &[u8]) -> u8
     ensures { outcome result device.new 0 [] ≡ make_anew device.old uid.now secret.now seed.now }
 {
-    let before = *device;
-    let reply = make(before, uid, secret, seed);
-    *device = reply.device;
-    reply.answer
+    store(device, make(*device, uid, secret, seed))
 }
 
 #[unsafe(no_mangle)]
 pub extern "C" fn she_reset(device: &mut Device) -> u8
     ensures { outcome result device.new 0 [] ≡ perform reset device.old }
 {
-    let before = *device;
-    let reply = commands::reset(before);
-    *device = reply.device;
-    reply.answer
+    store(device, commands::reset(*device))
 }
 
 #[unsafe(no_mangle)]
 pub extern "C" fn she_attach_debugger(device: &mut Device) -> u8
     ensures { outcome result device.new 0 [] ≡ perform attach_debugger device.old }
 {
-    let before = *device;
-    let reply = commands::attach_debugger(before);
-    *device = reply.device;
-    reply.answer
+    store(device, commands::attach_debugger(*device))
 }
 
 #[unsafe(no_mangle)]
 pub extern "C" fn she_enc_ecb(device: &mut Device, slot: u32, input: &[u8], output: &mut [u8]) -> u8
     ensures { outcome result device.new 0 (output.new ∷ []) ≡ perform (enc_ecb slot input.now output.old) device.old }
 {
-    let before = *device;
-    let reply = enc_ecb(before, slot, input, output);
-    *device = reply.device;
-    reply.answer
+    answer_of(enc_ecb(*device, slot, input, output))
 }
 
 #[unsafe(no_mangle)]
 pub extern "C" fn she_dec_ecb(device: &mut Device, slot: u32, input: &[u8], output: &mut [u8]) -> u8
     ensures { outcome result device.new 0 (output.new ∷ []) ≡ perform (dec_ecb slot input.now output.old) device.old }
 {
-    let before = *device;
-    let reply = dec_ecb(before, slot, input, output);
-    *device = reply.device;
-    reply.answer
+    answer_of(dec_ecb(*device, slot, input, output))
 }
 
 #[unsafe(no_mangle)]
@@ -328,10 +304,7 @@ pub extern "C" fn she_enc_cbc(
 ) -> u8
     ensures { outcome result device.new 0 (output.new ∷ []) ≡ perform (enc_cbc slot iv.now input.now output.old) device.old }
 {
-    let before = *device;
-    let reply = enc_cbc(before, slot, iv, input, output);
-    *device = reply.device;
-    reply.answer
+    answer_of(enc_cbc(*device, slot, iv, input, output))
 }
 
 #[unsafe(no_mangle)]
@@ -344,10 +317,7 @@ pub extern "C" fn she_dec_cbc(
 ) -> u8
     ensures { outcome result device.new 0 (output.new ∷ []) ≡ perform (dec_cbc slot iv.now input.now output.old) device.old }
 {
-    let before = *device;
-    let reply = dec_cbc(before, slot, iv, input, output);
-    *device = reply.device;
-    reply.answer
+    answer_of(dec_cbc(*device, slot, iv, input, output))
 }
 
 #[unsafe(no_mangle)]
@@ -360,10 +330,7 @@ pub extern "C" fn she_generate_mac(
 ) -> u8
     ensures { outcome result device.new 0 (mac.new ∷ []) ≡ perform (generate_mac slot bits message.now mac.old) device.old }
 {
-    let before = *device;
-    let reply = generate_mac(before, slot, bits, message, mac);
-    *device = reply.device;
-    reply.answer
+    answer_of(generate_mac(*device, slot, bits, message, mac))
 }
 
 #[unsafe(no_mangle)]
@@ -378,10 +345,11 @@ pub extern "C" fn she_verify_mac(
 ) -> u8
     ensures { outcome result device.new verdict.new [] ≡ perform (verify_mac slot bits message.now mac.now macbits) device.old }
 {
-    let before = *device;
-    let reply = verify_mac(before, slot, bits, message, mac, macbits, verdict);
-    *device = reply.device;
-    reply.answer
+    *verdict = 0;
+    store(
+        verdict,
+        verify_mac(*device, slot, bits, message, mac, macbits).map(u8::from),
+    )
 }
 
 #[unsafe(no_mangle)]
@@ -395,20 +363,14 @@ pub extern "C" fn she_load_key(
 ) -> u8
     ensures { outcome result device.new 0 (m4.new ∷ m5.new ∷ []) ≡ perform (load_key flag_count m1.now m2.now m3.now m4.old m5.old) device.old }
 {
-    let before = *device;
-    let reply = load::load_key(before, m1, m2, m3, m4, m5);
-    *device = reply.device;
-    reply.answer
+    store(device, load::load_key(*device, m1, m2, m3, m4, m5))
 }
 
 #[unsafe(no_mangle)]
 pub extern "C" fn she_load_plain_key(device: &mut Device, key: &[u8]) -> u8
     ensures { outcome result device.new 0 [] ≡ perform (load_plain_key key.now) device.old }
 {
-    let before = *device;
-    let reply = commands::load_plain_key(before, key);
-    *device = reply.device;
-    reply.answer
+    store(device, commands::load_plain_key(*device, key))
 }
 
 #[unsafe(no_mangle)]
@@ -422,88 +384,62 @@ pub extern "C" fn she_export_ram_key(
 ) -> u8
     ensures { outcome result device.new 0 (m1.new ∷ m2.new ∷ m3.new ∷ m4.new ∷ m5.new ∷ []) ≡ perform (export_ram_key flag_count m1.old m2.old m3.old m4.old m5.old) device.old }
 {
-    let before = *device;
-    let reply = load::export_ram_key(before, m1, m2, m3, m4, m5);
-    *device = reply.device;
-    reply.answer
+    answer_of(load::export_ram_key(*device, m1, m2, m3, m4, m5))
 }
 
 #[unsafe(no_mangle)]
 pub extern "C" fn she_init_rng(device: &mut Device) -> u8
     ensures { outcome result device.new 0 [] ≡ perform init_rng device.old }
 {
-    let before = *device;
-    let reply = commands::init_rng(before);
-    *device = reply.device;
-    reply.answer
+    store(device, commands::init_rng(*device))
 }
 
 #[unsafe(no_mangle)]
 pub extern "C" fn she_extend_seed(device: &mut Device, entropy: &[u8]) -> u8
     ensures { outcome result device.new 0 [] ≡ perform (extend_seed entropy.now) device.old }
 {
-    let before = *device;
-    let reply = commands::extend_seed(before, entropy);
-    *device = reply.device;
-    reply.answer
+    store(device, commands::extend_seed(*device, entropy))
 }
 
 #[unsafe(no_mangle)]
 pub extern "C" fn she_rnd(device: &mut Device, output: &mut [u8]) -> u8
     ensures { outcome result device.new 0 (output.new ∷ []) ≡ perform (rnd output.old) device.old }
 {
-    let before = *device;
-    let reply = commands::rnd(before, output);
-    *device = reply.device;
-    reply.answer
+    store(device, commands::rnd(*device, output))
 }
 
 #[unsafe(no_mangle)]
 pub extern "C" fn she_get_status(device: &mut Device, status: &mut u8) -> u8
     ensures { outcome result device.new status.new [] ≡ perform get_status device.old }
 {
-    let before = *device;
-    let reply = get_status(before, status);
-    *device = reply.device;
-    reply.answer
+    *status = 0;
+    store(status, commands::get_status(*device))
 }
 
 #[unsafe(no_mangle)]
 pub extern "C" fn she_get_id(device: &mut Device, challenge: &[u8], output: &mut [u8]) -> u8
     ensures { outcome result device.new 0 (output.new ∷ []) ≡ perform (get_id challenge.now output.old) device.old }
 {
-    let before = *device;
-    let reply = commands::get_id(before, challenge, output);
-    *device = reply.device;
-    reply.answer
+    answer_of(commands::get_id(*device, challenge, output))
 }
 
 #[unsafe(no_mangle)]
 pub extern "C" fn she_secure_boot(device: &mut Device, bootloader: &[u8]) -> u8
     ensures { outcome result device.new 0 [] ≡ perform (secure_boot bootloader.now) device.old }
 {
-    let before = *device;
-    let reply = boot::secure_boot(before, bootloader);
-    *device = reply.device;
-    reply.answer
+    store(device, boot::secure_boot(*device, bootloader))
 }
 
 #[unsafe(no_mangle)]
 pub extern "C" fn she_boot_failure(device: &mut Device) -> u8
     ensures { outcome result device.new 0 [] ≡ perform boot_failure device.old }
 {
-    let before = *device;
-    let reply = boot::boot_failure(before);
-    *device = reply.device;
-    reply.answer
+    store(device, boot::boot_failure(*device))
 }
 
 #[unsafe(no_mangle)]
 pub extern "C" fn she_boot_ok(device: &mut Device) -> u8
     ensures { outcome result device.new 0 [] ≡ perform boot_ok device.old }
 {
-    let before = *device;
-    let reply = boot::boot_ok(before);
-    *device = reply.device;
-    reply.answer
+    store(device, boot::boot_ok(*device))
 }

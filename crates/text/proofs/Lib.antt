@@ -1,5 +1,3 @@
 pub mod Buffers
 pub mod Digits
 pub mod Hex
-pub mod Marks
-pub mod Parts

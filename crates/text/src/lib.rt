@@ -17,32 +17,28 @@ pub fn front_size(bytes: &[u8], n: u64) -> usize
     ensures value { result ≡ min n (length bytes.now) }
     ensures has_front { HasFront result bytes.now }
 {
-    let end = n as usize;
-    if end < bytes.len() { end } else { bytes.len() }
+    bytes.len().min(n as usize)
 }
 
 // The first n bytes, or all.
 pub fn front(bytes: &[u8], n: u64) -> &[u8]
     ensures { result.now ≡ take n bytes.now }
 {
-    let end = front_size(bytes, n);
-    &bytes[..end]
+    bytes.get(..n as usize).unwrap_or(bytes)
 }
 
 // What comes after the first n bytes.
 pub fn rest(bytes: &[u8], n: u64) -> &[u8]
     ensures { result.now ≡ drop n bytes.now }
 {
-    let start = front_size(bytes, n);
-    &bytes[start..]
+    bytes.get(n as usize..).unwrap_or(&[])
 }
 
 // The last n bytes, or all.
 pub fn last(bytes: &[u8], n: u64) -> &[u8]
     ensures { result.now ≡ drop (length bytes.now - n) bytes.now }
 {
-    let start = bytes.len() - front_size(bytes, n);
-    rest(bytes, start as u64)
+    rest(bytes, (bytes.len() as u64).saturating_sub(n))
 }
 
 // ---- what marks part: lines, words, operands
@@ -76,29 +72,20 @@ pub fn after(text: &[u8], mark: u8) -> &[u8]
 pub fn byte_of(value: u64) -> u8
     ensures { result ≡ min value 255 }
 {
-    if value < 256 { value as u8 } else { 255 }
+    u8::try_from(value).unwrap_or(u8::MAX)
 }
 
 pub fn word_of(value: u64) -> u32
     ensures { result ≡ min value 0xffffffff }
 {
-    if value < 0x100000000 {
-        value as u32
-    } else {
-        0xffffffff
-    }
+    u32::try_from(value).unwrap_or(u32::MAX)
 }
 
 // A number's four bytes, the most significant first.
 pub fn bytes_of(word: u32) -> [u8; 4]
     ensures { result ≡ in_four word }
 {
-    [
-        ((word >> 24) % 256) as u8,
-        ((word >> 16) % 256) as u8,
-        ((word >> 8) % 256) as u8,
-        (word % 256) as u8,
-    ]
+    word.to_be_bytes()
 }
 
 // ---- hexadecimal digits
@@ -122,14 +109,14 @@ pub fn digit(c: u8) -> u8
 fn digit_at(bytes: &[u8], i: usize) -> u8
     ensures { result ≡ get_or (in_digits bytes.now) i 0 }
 {
-    let at = i / 2;
-    if bytes.len() <= at {
+    let Some(byte) = bytes.get(i / 2) else {
         return 0;
-    }
+    };
     if i % 2 == 0 {
-        return letter_of(bytes[at] / 16);
+        letter_of(*byte / 16)
+    } else {
+        letter_of(*byte)
     }
-    letter_of(bytes[at])
 }
 
 // Puts bytes in digits at the front of a buffer, as far as there is room, and answers how many digits those are.
@@ -138,10 +125,8 @@ pub fn to_hex(bytes: &[u8], digits: &mut [u8]) -> usize
     ensures value { result ≡ min (2 * length bytes.now) (length digits.old) }
 {
     let end = front_size(digits, 2 * (bytes.len() as u64));
-    let mut i: usize = 0;
-    while i < end {
+    for i in 0..end {
         digits[i] = digit_at(bytes, i);
-        i += 1;
     }
     end
 }
@@ -167,10 +152,8 @@ pub fn from_hex(text: &[u8], bytes: &mut [u8]) -> usize
 {
     let mut count: usize = 0;
     let mut high: u8 = 0;
-    let mut i: usize = 0;
-    while i < text.len() {
-        let d = digit(text[i]);
-        i += 1;
+    for c in text {
+        let d = digit(*c);
         if d < 16 {
             put_second(bytes, count, 16 * high + d);
             high = d;

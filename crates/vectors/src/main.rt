@@ -38,405 +38,409 @@
 //     B byte                           target and authority of a slot byte
 #![tactic(auto)]
 
-ghost use Rattle.text.specs.Buffers.{HasFront};
+ghost use Rattle.std.specs.Prelude.{◌≤◌};
 
-use std::io;
+use basics::Refusal;
+use message::Contents;
+use modes::Constant;
 use std::io::{Read, Stdout, Write};
+use std::{array, io};
 
 // How much of the input is read.
-const MOST: usize = 65536;
+const MOST: u64 = 65536;
 
-// How many bytes an operand of a routine on lent buffers can have.
+// How many bytes an operand can have: one of a routine on lent buffers, and one of a key message.
 const ROOM: usize = 8192;
 
-// The operand after n slashes, as it stands in the line.
-fn part(line: &[u8], n: usize) -> &[u8] {
-    let mut left = line;
-    let mut slashes = n;
-    while slashes > 0 {
-        let more = text::after(left, b'/');
-        left = more;
-        slashes -= 1;
+const MESSAGE_ROOM: usize = 64;
+
+// How many bytes a block makes that is repeated, 4100 times.
+const REPEATED: usize = 65600;
+
+// ---- operands
+
+// The bytes of an operand, as far as there is room for them.
+#[derive(Drop)]
+struct Buffer<const N: usize> {
+    bytes: [u8; N],
+    size: usize,
+    ghost within: { size ≤ N },
+}
+
+impl<const N: usize> Buffer<N> {
+    fn bytes(&self) -> &[u8] {
+        &self.bytes[..self.size]
     }
-    text::before(left, b'/')
-}
 
-// Its bytes, as far as there is room, and how many digits it has.
-fn digits(line: &[u8], n: usize, bytes: &mut [u8]) -> usize {
-    text::from_hex(part(line, n), bytes)
-}
-
-// The same, and how many bytes it has, of those for which there is room.
-fn operand(line: &[u8], n: usize, bytes: &mut [u8]) -> usize
-    ensures { HasFront result bytes.new }
-{
-    let size = digits(line, n, bytes) / 2;
-    text::front_size(bytes, size as u64)
-}
-
-fn with_byte(value: u64, byte: u8) -> u64 {
-    value << 8 ^ byte as u64
-}
-
-// The number of some bytes, the most significant first.
-fn value_of(bytes: &[u8]) -> u64 {
-    let mut value: u64 = 0;
-    let mut i: usize = 0;
-    while i < bytes.len() {
-        value = with_byte(value, bytes[i]);
-        i += 1;
+    fn bytes_mut(&mut self) -> &mut [u8] {
+        let size = self.size;
+        let bytes = &mut self.bytes;
+        &mut bytes[..size]
     }
-    value
 }
 
-fn number(line: &[u8], n: usize) -> u64 {
-    let mut bytes = [0u8; 8];
-    let size = operand(line, n, &mut bytes);
-    value_of(&bytes[..size])
+// The text of a line after its letter: operands with a slash between two of them. An operand that it hasn't is empty.
+#[derive(Clone, Copy)]
+struct Operands<'a>(&'a [u8]);
+
+impl<'a> Operands<'a> {
+    fn text(self, n: usize) -> &'a [u8] {
+        self.0.split(|c| *c == b'/').nth(n).unwrap_or(&[])
+    }
+
+    fn buffer<const N: usize>(self, n: usize) -> Buffer<N> {
+        let mut bytes = [0u8; N];
+        let digits = text::from_hex(self.text(n), &mut bytes);
+        Buffer {
+            bytes,
+            size: (digits / 2).min(N),
+        }
+    }
+
+    // An operand that has 16 bytes, no more and no fewer.
+    fn block(self, n: usize) -> Option<[u8; 16]> {
+        let mut bytes = [0u8; 16];
+        let digits = text::from_hex(self.text(n), &mut bytes);
+        (digits == 32).then_some(bytes)
+    }
+
+    // A number of up to 8 bytes, the most significant first.
+    fn number(self, n: usize) -> u64 {
+        let bytes = self.buffer::<8>(n);
+        bytes
+            .bytes()
+            .iter()
+            .fold(0, |value, byte| value << 8 ^ *byte as u64)
+    }
+
+    // The block that is operand 2, as many times as operand 3 says.
+    fn repeated(self) -> Option<Buffer<REPEATED>> {
+        let block = self.block(2)?;
+        Some(Buffer {
+            bytes: array::from_fn(|i| block[i % 16]),
+            size: 16 * self.number(3).min(4100) as usize,
+        })
+    }
+
+    fn byte(self, n: usize) -> u8 {
+        text::byte_of(self.number(n))
+    }
+
+    fn word(self, n: usize) -> u32 {
+        text::word_of(self.number(n))
+    }
 }
 
-fn write(out: Stdout, text: &[u8]) -> io::Result<()> {
-    let mut writer = out;
-    writer.write_all(text)
-}
+// ---- writing
 
 // Up to sixteen bytes as a line.
-fn write_row(out: Stdout, row: &[u8]) -> io::Result<()> {
+fn write_row(mut out: Stdout, row: &[u8]) -> io::Result<()> {
     let mut line = [b'\n'; 33];
     let n = text::to_hex(row, &mut line);
-    write(out, text::front(&line, n as u64 + 1))
+    out.write_all(text::front(&line, n as u64 + 1))
 }
 
 fn write_bytes(out: Stdout, bytes: &[u8]) -> io::Result<()> {
-    let mut left = bytes;
-    while left.len() > 0 {
-        write_row(out, text::front(left, 16))?;
-        let more = text::rest(left, 16);
-        left = more;
+    for row in bytes.chunks(16) {
+        write_row(out, row)?;
     }
     Ok(())
 }
 
 // The answer of a routine on lent buffers, and its buffer.
-fn write_outcome(out: Stdout, answer: u8, output: &[u8]) -> io::Result<()> {
-    write_bytes(out, &[answer])?;
+fn write_outcome(out: Stdout, answer: Result<(), Refusal>, output: &[u8]) -> io::Result<()> {
+    write_bytes(out, &[basics::answer_of(answer)])?;
     write_bytes(out, output)
 }
 
-fn no_such_vector(out: Stdout) -> io::Result<()> {
-    write(out, b"no such vector\n")
+fn no_such_vector(mut out: Stdout) -> io::Result<()> {
+    writeln!(out, "no such vector")
 }
 
 // ---- the routines on blocks
 
-fn schedule(out: Stdout, line: &[u8]) -> io::Result<()> {
-    let mut key = [0u8; 16];
-    if digits(line, 0, &mut key) != 32 {
+fn schedule(out: Stdout, line: Operands) -> io::Result<()> {
+    let Some(key) = line.block(0) else {
         return no_such_vector(out);
-    }
+    };
     write_bytes(out, &aes::expand_key(key))
 }
 
-fn subkeys(out: Stdout, line: &[u8]) -> io::Result<()> {
-    let mut key = [0u8; 16];
-    if digits(line, 0, &mut key) != 32 {
+fn subkeys(out: Stdout, line: Operands) -> io::Result<()> {
+    let Some(key) = line.block(0) else {
         return no_such_vector(out);
-    }
+    };
     let w = aes::expand_key(key);
     write_bytes(out, &modes::subkey_1(&w))?;
     write_bytes(out, &modes::subkey_2(&w))
 }
 
 // What takes two blocks: enciphering, deciphering, and the extension of a seed.
-fn of_two_blocks(out: Stdout, routine: u8, line: &[u8]) -> io::Result<()> {
-    let mut a = [0u8; 16];
-    let mut b = [0u8; 16];
-    if digits(line, 0, &mut a) != 32 {
+fn of_two_blocks<F: Fn([u8; 16], [u8; 16]) -> [u8; 16]>(
+    out: Stdout,
+    line: Operands,
+    routine: F,
+) -> io::Result<()>
+    requires { F.IsAlwaysCallable routine }
+{
+    let (Some(a), Some(b)) = (line.block(0), line.block(1)) else {
         return no_such_vector(out);
-    }
-    if digits(line, 1, &mut b) != 32 {
-        return no_such_vector(out);
-    }
-    match routine {
-        b'E' => write_bytes(out, &aes::encrypt(a, b)),
-        b'D' => write_bytes(out, &aes::decrypt(a, b)),
-        _ => write_bytes(out, &modes::extend(a, b)),
+    };
+    write_bytes(out, &routine(a, b))
+}
+
+fn constant(number: u64) -> Option<Constant> {
+    match number {
+        1 => Some(Constant::KeyUpdateEnc),
+        2 => Some(Constant::KeyUpdateMac),
+        3 => Some(Constant::DebugKey),
+        4 => Some(Constant::PrngKey),
+        5 => Some(Constant::PrngSeedKey),
+        _ => None,
     }
 }
 
-fn derived(out: Stdout, line: &[u8]) -> io::Result<()> {
-    let mut key = [0u8; 16];
-    if digits(line, 0, &mut key) != 32 {
+fn derived(out: Stdout, line: Operands) -> io::Result<()> {
+    let (Some(key), Some(name)) = (line.block(0), constant(line.number(1))) else {
         return no_such_vector(out);
-    }
-    let name = match number(line, 1) {
-        1 => modes::Constant::KeyUpdateEnc,
-        2 => modes::Constant::KeyUpdateMac,
-        3 => modes::Constant::DebugKey,
-        4 => modes::Constant::PrngKey,
-        5 => modes::Constant::PrngSeedKey,
-        _ => return no_such_vector(out),
     };
     write_bytes(out, &modes::derive(key, name))
 }
 
 // ---- the routines on lent buffers
 
-fn of_three_buffers(out: Stdout, routine: u8, line: &[u8]) -> io::Result<()> {
-    let mut first = [0u8; ROOM];
-    let mut second = [0u8; ROOM];
-    let mut third = [0u8; ROOM];
-    let first_size = operand(line, 0, &mut first);
-    let second_size = operand(line, 1, &mut second);
-    let third_size = operand(line, 2, &mut third);
-    let a = &first[..first_size];
-    let b = &second[..second_size];
-    let output = &mut third[..third_size];
-    let answer = match routine {
-        b'e' => modes::ecb_encrypt(a, b, output),
-        b'd' => modes::ecb_decrypt(a, b, output),
-        b'H' => modes::compress(a, b, output),
-        _ => modes::kdf(a, b, output),
-    };
-    write_outcome(out, answer, output)
+fn of_three_buffers<F: Fn(&[u8], &[u8], &mut [u8]) -> Result<(), Refusal>>(
+    out: Stdout,
+    line: Operands,
+    routine: F,
+) -> io::Result<()>
+    requires { F.IsAlwaysCallable routine }
+{
+    let a = line.buffer::<ROOM>(0);
+    let b = line.buffer::<ROOM>(1);
+    let mut output = line.buffer::<ROOM>(2);
+    let answer = routine(a.bytes(), b.bytes(), output.bytes_mut());
+    write_outcome(out, answer, output.bytes())
 }
 
-fn cbc(out: Stdout, routine: u8, line: &[u8]) -> io::Result<()> {
-    let mut key = [0u8; ROOM];
-    let mut iv = [0u8; ROOM];
-    let mut text = [0u8; ROOM];
-    let mut room = [0u8; ROOM];
-    let key_size = operand(line, 0, &mut key);
-    let iv_size = operand(line, 1, &mut iv);
-    let text_size = operand(line, 2, &mut text);
-    let room_size = operand(line, 3, &mut room);
-    let k = &key[..key_size];
-    let v = &iv[..iv_size];
-    let input = &text[..text_size];
-    let output = &mut room[..room_size];
-    let answer = if routine == b'C' {
-        modes::cbc_encrypt(k, v, input, output)
-    } else {
-        modes::cbc_decrypt(k, v, input, output)
-    };
-    write_outcome(out, answer, output)
+fn cbc<F: Fn(&[u8], &[u8], &[u8], &mut [u8]) -> Result<(), Refusal>>(
+    out: Stdout,
+    line: Operands,
+    routine: F,
+) -> io::Result<()>
+    requires { F.IsAlwaysCallable routine }
+{
+    let key = line.buffer::<ROOM>(0);
+    let iv = line.buffer::<ROOM>(1);
+    let input = line.buffer::<ROOM>(2);
+    let mut output = line.buffer::<ROOM>(3);
+    let answer = routine(key.bytes(), iv.bytes(), input.bytes(), output.bytes_mut());
+    write_outcome(out, answer, output.bytes())
 }
 
-// A text of one block again and again, as many as there is room for.
-fn repeated(block: [u8; 16]) -> [u8; 65600] {
-    let mut text = [0u8; 65600];
-    let mut i: usize = 0;
-    while i < 65600 {
-        text[i] = block[i % 16];
-        i += 1;
-    }
-    text
-}
-
-// How many of its bytes are so many blocks.
-fn size_of(count: u64) -> u64 {
-    if count < 4100 { 16 * count } else { 65600 }
-}
-
-fn cbc_repeated(out: Stdout, line: &[u8]) -> io::Result<()> {
-    let mut block = [0u8; 16];
-    if digits(line, 2, &mut block) != 32 {
+fn cbc_repeated(out: Stdout, line: Operands) -> io::Result<()> {
+    let (Some(input), Some(mut output)) = (line.repeated(), line.repeated()) else {
         return no_such_vector(out);
-    }
-    let size = size_of(number(line, 3));
-    let mut key = [0u8; ROOM];
-    let mut iv = [0u8; ROOM];
-    let input = repeated(block);
-    let mut room = repeated(block);
-    let key_size = operand(line, 0, &mut key);
-    let iv_size = operand(line, 1, &mut iv);
-    let room_size = text::front_size(&room, size);
-    let output = &mut room[..room_size];
-    let answer = modes::cbc_encrypt(
-        &key[..key_size],
-        &iv[..iv_size],
-        text::front(&input, size),
-        output,
-    );
-    write_outcome(out, answer, text::last(output, 16))
+    };
+    let key = line.buffer::<ROOM>(0);
+    let iv = line.buffer::<ROOM>(1);
+    let answer = modes::cbc_encrypt(key.bytes(), iv.bytes(), input.bytes(), output.bytes_mut());
+    write_outcome(out, answer, text::last(output.bytes(), 16))
 }
 
 // The key and the output are operands 0 and `last`, the message is lent.
-fn mac(out: Stdout, line: &[u8], last: usize, message: &[u8]) -> io::Result<()> {
-    let mut key = [0u8; ROOM];
-    let mut room = [0u8; ROOM];
-    let key_size = operand(line, 0, &mut key);
-    let room_size = operand(line, last, &mut room);
-    let output = &mut room[..room_size];
-    let answer = modes::cmac(&key[..key_size], number(line, 1), message, output);
-    write_outcome(out, answer, output)
+fn mac(out: Stdout, line: Operands, last: usize, message: &[u8]) -> io::Result<()> {
+    let key = line.buffer::<ROOM>(0);
+    let mut output = line.buffer::<ROOM>(last);
+    let answer = modes::cmac(key.bytes(), line.number(1), message, output.bytes_mut());
+    write_outcome(out, answer, output.bytes())
 }
 
-fn cmac(out: Stdout, line: &[u8]) -> io::Result<()> {
-    let mut message = [0u8; ROOM];
-    let size = operand(line, 2, &mut message);
-    mac(out, line, 3, &message[..size])
+fn cmac(out: Stdout, line: Operands) -> io::Result<()> {
+    let message = line.buffer::<ROOM>(2);
+    mac(out, line, 3, message.bytes())
 }
 
-fn cmac_repeated(out: Stdout, line: &[u8]) -> io::Result<()> {
-    let mut block = [0u8; 16];
-    if digits(line, 2, &mut block) != 32 {
+fn cmac_repeated(out: Stdout, line: Operands) -> io::Result<()> {
+    let Some(message) = line.repeated() else {
         return no_such_vector(out);
-    }
-    let message = repeated(block);
-    mac(
-        out,
-        line,
-        4,
-        text::front(&message, size_of(number(line, 3))),
-    )
+    };
+    mac(out, line, 4, message.bytes())
 }
 
 // ---- key messages
 
-// How many bytes an operand of a key message can have.
-const MESSAGE_ROOM: usize = 64;
+// What goes into M1 to M3.
+#[derive(Drop)]
+struct Update {
+    uid: Buffer<MESSAGE_ROOM>,
+    target: u8,
+    authority: u8,
+    authkey: Buffer<MESSAGE_ROOM>,
+    counter: u32,
+    flags: u8,
+    key: Buffer<MESSAGE_ROOM>,
+}
+
+impl Update {
+    fn read(line: Operands) -> Update {
+        Update {
+            uid: line.buffer(0),
+            target: line.byte(1),
+            authority: line.byte(2),
+            authkey: line.buffer(3),
+            counter: line.word(4),
+            flags: line.byte(5),
+            key: line.buffer(6),
+        }
+    }
+}
 
 // The three forms of the writer, with the buffers for the messages lent.
-fn write_form(routine: u8, line: &[u8], m1: &mut [u8], m2: &mut [u8], m3: &mut [u8]) -> u8 {
-    let mut uid_room = [0u8; MESSAGE_ROOM];
-    let mut authkey_room = [0u8; MESSAGE_ROOM];
-    let mut key_room = [0u8; MESSAGE_ROOM];
-    let uid_size = operand(line, 0, &mut uid_room);
-    let authkey_size = operand(line, 3, &mut authkey_room);
-    let key_size = operand(line, 6, &mut key_room);
-    let uid = &uid_room[..uid_size];
-    let authkey = &authkey_room[..authkey_size];
-    let key = &key_room[..key_size];
-    let target = text::byte_of(number(line, 1));
-    let authority = text::byte_of(number(line, 2));
-    let counter = text::word_of(number(line, 4));
-    let flags = text::byte_of(number(line, 5));
-    match routine {
-        b'W' => message::write_key(
-            uid, target, authority, authkey, counter, flags, key, m1, m2, m3,
-        ),
-        b'w' => message::write_key_short(uid, target, authority, authkey, counter, key, m1, m2, m3),
-        _ => message::fleet_sheet(target, authority, authkey, counter, key, m1, m2, m3),
-    }
+fn messages<F: Fn(&Update, &mut [u8], &mut [u8], &mut [u8]) -> Result<(), Refusal>>(
+    out: Stdout,
+    line: Operands,
+    writer: F,
+) -> io::Result<()>
+    requires { F.IsAlwaysCallable writer }
+{
+    let mut m1 = line.buffer::<MESSAGE_ROOM>(7);
+    let mut m2 = line.buffer::<MESSAGE_ROOM>(8);
+    let mut m3 = line.buffer::<MESSAGE_ROOM>(9);
+    let answer = writer(
+        &Update::read(line),
+        m1.bytes_mut(),
+        m2.bytes_mut(),
+        m3.bytes_mut(),
+    );
+    write_outcome(out, answer, m1.bytes())?;
+    write_bytes(out, m2.bytes())?;
+    write_bytes(out, m3.bytes())
 }
 
-fn messages(out: Stdout, routine: u8, line: &[u8]) -> io::Result<()> {
-    let mut room_1 = [0u8; MESSAGE_ROOM];
-    let mut room_2 = [0u8; MESSAGE_ROOM];
-    let mut room_3 = [0u8; MESSAGE_ROOM];
-    let size_1 = operand(line, 7, &mut room_1);
-    let size_2 = operand(line, 8, &mut room_2);
-    let size_3 = operand(line, 9, &mut room_3);
-    let m1 = &mut room_1[..size_1];
-    let m2 = &mut room_2[..size_2];
-    let m3 = &mut room_3[..size_3];
-    let answer = write_form(routine, line, m1, m2, m3);
-    write_outcome(out, answer, m1)?;
-    write_bytes(out, m2)?;
-    write_bytes(out, m3)
+fn full_form(u: &Update, m1: &mut [u8], m2: &mut [u8], m3: &mut [u8]) -> Result<(), Refusal> {
+    let update = message::Update {
+        uid: u.uid.bytes(),
+        target: u.target,
+        authority: u.authority,
+        authkey: u.authkey.bytes(),
+        counter: u.counter,
+        flags: u.flags,
+        key: u.key.bytes(),
+    };
+    update.write(m1, m2, m3)
 }
 
-fn proof(out: Stdout, line: &[u8]) -> io::Result<()> {
-    let mut uid = [0u8; MESSAGE_ROOM];
-    let mut key = [0u8; MESSAGE_ROOM];
-    let mut room_4 = [0u8; MESSAGE_ROOM];
-    let mut room_5 = [0u8; MESSAGE_ROOM];
-    let uid_size = operand(line, 0, &mut uid);
-    let key_size = operand(line, 4, &mut key);
-    let size_4 = operand(line, 5, &mut room_4);
-    let size_5 = operand(line, 6, &mut room_5);
-    let m4 = &mut room_4[..size_4];
-    let m5 = &mut room_5[..size_5];
+fn short_form(u: &Update, m1: &mut [u8], m2: &mut [u8], m3: &mut [u8]) -> Result<(), Refusal> {
+    let (uid, authkey, key) = (u.uid.bytes(), u.authkey.bytes(), u.key.bytes());
+    message::write_key_short(
+        uid,
+        u.target,
+        u.authority,
+        authkey,
+        u.counter,
+        key,
+        m1,
+        m2,
+        m3,
+    )
+}
+
+fn fleet_sheet(u: &Update, m1: &mut [u8], m2: &mut [u8], m3: &mut [u8]) -> Result<(), Refusal> {
+    let (authkey, key) = (u.authkey.bytes(), u.key.bytes());
+    message::fleet_sheet(u.target, u.authority, authkey, u.counter, key, m1, m2, m3)
+}
+
+fn proof(out: Stdout, line: Operands) -> io::Result<()> {
+    let uid = line.buffer::<MESSAGE_ROOM>(0);
+    let key = line.buffer::<MESSAGE_ROOM>(4);
+    let mut m4 = line.buffer::<MESSAGE_ROOM>(5);
+    let mut m5 = line.buffer::<MESSAGE_ROOM>(6);
     let answer = message::write_proof(
-        &uid[..uid_size],
-        text::byte_of(number(line, 1)),
-        text::byte_of(number(line, 2)),
-        text::word_of(number(line, 3)),
-        &key[..key_size],
-        m4,
-        m5,
+        uid.bytes(),
+        line.byte(1),
+        line.byte(2),
+        line.word(3),
+        key.bytes(),
+        m4.bytes_mut(),
+        m5.bytes_mut(),
     );
-    write_outcome(out, answer, m4)?;
-    write_bytes(out, m5)
+    write_outcome(out, answer, m4.bytes())?;
+    write_bytes(out, m5.bytes())
 }
 
-fn open(out: Stdout, line: &[u8]) -> io::Result<()> {
-    let mut authkey = [0u8; MESSAGE_ROOM];
-    let mut m1 = [0u8; MESSAGE_ROOM];
-    let mut m2 = [0u8; MESSAGE_ROOM];
-    let mut m3 = [0u8; MESSAGE_ROOM];
-    let authkey_size = operand(line, 0, &mut authkey);
-    let size_1 = operand(line, 1, &mut m1);
-    let size_2 = operand(line, 2, &mut m2);
-    let size_3 = operand(line, 3, &mut m3);
-    let opened = message::open(
-        &authkey[..authkey_size],
-        &m1[..size_1],
-        &m2[..size_2],
-        &m3[..size_3],
-    );
-    write_bytes(out, &[opened.genuine as u8])?;
-    write_bytes(out, &text::bytes_of(opened.counter))?;
-    write_bytes(out, &[opened.flags, opened.zerofill as u8])?;
-    write_bytes(out, &opened.key)
+fn open(out: Stdout, line: Operands) -> io::Result<()> {
+    let authkey = line.buffer::<MESSAGE_ROOM>(0);
+    let m1 = line.buffer::<MESSAGE_ROOM>(1);
+    let m2 = line.buffer::<MESSAGE_ROOM>(2);
+    let m3 = line.buffer::<MESSAGE_ROOM>(3);
+    let opened = message::open(authkey.bytes(), m1.bytes(), m2.bytes(), m3.bytes());
+    write_bytes(out, &[opened.is_some() as u8])?;
+    // What M3 does not vouch for is written as zeros.
+    let contents = opened.unwrap_or(Contents {
+        counter: 0,
+        flags: 0,
+        zerofill: false,
+        key: [0; 16],
+    });
+    write_bytes(out, &contents.counter.to_be_bytes())?;
+    write_bytes(out, &[contents.flags, contents.zerofill as u8])?;
+    write_bytes(out, &contents.key)
 }
 
-fn kind_number(slot: u8) -> u8 {
-    match message::kind_of(slot) {
-        message::Kind::SecretKey => 0,
-        message::Kind::MasterEcuKey => 1,
-        message::Kind::BootMacKey => 2,
-        message::Kind::BootMac => 3,
-        message::Kind::KeyN => 4,
-        message::Kind::RamKey => 5,
-        message::Kind::NoSlot => 6,
-    }
-}
-
-fn slots(out: Stdout, line: &[u8]) -> io::Result<()> {
-    let target = text::byte_of(number(line, 0));
-    let authority = text::byte_of(number(line, 1));
+fn slots(out: Stdout, line: Operands) -> io::Result<()> {
+    let target = line.byte(0);
     write_bytes(
         out,
         &[
-            kind_number(target),
+            message::Kind::from(target) as u8,
             message::has_role(target, message::Role::Cipher) as u8,
             message::has_role(target, message::Role::GenerateMac) as u8,
             message::has_role(target, message::Role::VerifyMac) as u8,
             message::flags_kept(target),
             (message::counter_kept(target, 1) % 256) as u8,
-            message::is_allowed(target, authority) as u8,
+            message::is_allowed(target, line.byte(1)) as u8,
         ],
     )
 }
 
-fn slot_byte(out: Stdout, line: &[u8]) -> io::Result<()> {
-    let byte = text::byte_of(number(line, 0));
+fn slot_byte(out: Stdout, line: Operands) -> io::Result<()> {
+    let byte = line.byte(0);
     write_bytes(
         out,
         &[message::target_of(byte), message::authority_of(byte)],
     )
 }
 
-fn run_line(out: Stdout, line: &[u8]) -> io::Result<()> {
-    if line.len() == 0 || line[0] == b'#' {
-        write(out, line)?;
-        return write(out, b"\n");
-    }
-    let routine = line[0];
-    let operands = &line[1..];
+// ---- lines
+
+fn run_line(mut out: Stdout, line: &[u8]) -> io::Result<()> {
+    let (routine, operands) = match line {
+        [] | [b'#', ..] => {
+            out.write_all(line)?;
+            return writeln!(out);
+        }
+        [routine, operands @ ..] => (*routine, Operands(operands)),
+    };
     match routine {
         b'K' => schedule(out, operands),
         b'S' => subkeys(out, operands),
         b'N' => derived(out, operands),
-        b'E' | b'D' | b'X' => of_two_blocks(out, routine, operands),
-        b'e' | b'd' | b'H' | b'F' => of_three_buffers(out, routine, operands),
-        b'C' | b'c' => cbc(out, routine, operands),
+        b'E' => of_two_blocks(out, operands, aes::encrypt),
+        b'D' => of_two_blocks(out, operands, aes::decrypt),
+        b'X' => of_two_blocks(out, operands, modes::extend),
+        b'e' => of_three_buffers(out, operands, modes::ecb_encrypt),
+        b'd' => of_three_buffers(out, operands, modes::ecb_decrypt),
+        b'H' => of_three_buffers(out, operands, modes::compress),
+        b'F' => of_three_buffers(out, operands, modes::kdf),
+        b'C' => cbc(out, operands, modes::cbc_encrypt),
+        b'c' => cbc(out, operands, modes::cbc_decrypt),
         b'L' => cbc_repeated(out, operands),
         b'M' => cmac(out, operands),
         b'R' => cmac_repeated(out, operands),
-        b'W' | b'w' | b'f' => messages(out, routine, operands),
+        b'W' => messages(out, operands, full_form),
+        b'w' => messages(out, operands, short_form),
+        b'f' => messages(out, operands, fleet_sheet),
         b'A' => proof(out, operands),
         b'O' => open(out, operands),
         b'P' => slots(out, operands),
@@ -446,25 +450,14 @@ fn run_line(out: Stdout, line: &[u8]) -> io::Result<()> {
 }
 
 fn run(out: Stdout, lines: &[u8]) -> io::Result<()> {
-    let mut left = lines;
-    while left.len() > 0 {
-        run_line(out, text::before(left, b'\n'))?;
-        let more = text::after(left, b'\n');
-        left = more;
+    for line in lines.split_inclusive(|c| *c == b'\n') {
+        run_line(out, text::before(line, b'\n'))?;
     }
     Ok(())
 }
 
 fn main(rt: HostRuntime) -> io::Result<()> {
-    let mut input = [0u8; MOST];
-    let mut n: usize = 0;
-    let mut stdin = rt.stdin();
-    while n < MOST {
-        let more = stdin.read(&mut input[n..])?;
-        if more == 0 {
-            break;
-        }
-        n += more;
-    }
-    run(rt.stdout(), &input[..n])
+    let mut input = Vec::new(rt.alloc());
+    rt.stdin().take(MOST).read_to_end(&mut input)?;
+    run(rt.stdout(), &input)
 }

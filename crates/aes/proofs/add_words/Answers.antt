@@ -1,9 +1,13 @@
--- `aes::add_words` meets its contract: its code is its definition.
+-- `aes::add_words` meets its contract: the closure gives the sums, byte by byte.
 -- Assumes nothing.
-use mathlib.Core.Path.{refl}
+use borrow.Author.Rules.{rules}
+use Rattle.laws.proofs.Made.{made}
+use Rattle.laws.specs.Tabulate.{tabulate}
 use Rattle.laws.specs.Xor.{◌xor◌}
+use Rattle.aes.specs.State.{byte}
 use Rattle.aes.proofs.add_words.Goals as goal
 
 pub returns : goal.returns
-unfolding ◌xor◌
-returns c = refl
+unfolding tabulate ◌xor◌
+returns c = let a = c.args in
+    made _ _ (λ k. byte a.a k xor byte a.b k) 4 (λ i y q below called. search rules) c.from_fn.result c.from_fn.ensures.items

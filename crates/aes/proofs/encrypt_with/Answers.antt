@@ -1,7 +1,7 @@
--- `aes::encrypt_with` meets its contract: before each turn the rounds 1 to r are done.
+-- `aes::encrypt_with` meets its contract: before turn r the rounds 1 to r - 1 are done.
 -- Assumes nothing.
 use mathlib.Core.Path.{◌≡◌, ap, ◌∙◌}
-use Prim.Native.Nat.{ℕ, ◌+◌}
+use Prim.Native.Nat.{ℕ, ◌-◌}
 use native.Mathlib.Omega.{arith}
 use borrow.Author.Rules.{rules}
 use Rattle.field.specs.Sbox.{sbox}
@@ -19,14 +19,14 @@ unfolding round shift_rows sub_bytes
 loop-r-preserved c = let l = c.loop-r in
     let w = c.args.w.now in
     let boxed = c.sub_bytes.ensures sbox c.sbox_table-boxes.ensures in
-    let turn : c.add_round_key-s-in-loop-r.result ≡ round w (l.r + 1) l.s = cc in
-    (search rules, one_more w c.add_round_key-s.result l.s c.add_round_key-s-in-loop-r.result l.r l.invariant.1 turn)
+    let turn : c.add_round_key-s-in-loop-r.result ≡ round w l.r l.s = cc in
+    one_more w c.add_round_key-s.result l.s c.add_round_key-s-in-loop-r.result l.r (search rules) l.invariant turn
 
 pub returns : goal.returns
 unfolding cipher_with shift_rows sub_bytes
 returns c = let l = c.loop-r in
     let w = c.args.w.now in
     let boxed = c.sub_bytes-2.ensures sbox c.sbox_table-boxes.ensures in
-    let nine : l.r ≡ 9 = omega arith in
-    let done = l.invariant.1 ∙ ap (λ (n : ℕ). rounds n w c.add_round_key-s.result) nine in
+    let nine : l.r - 1 ≡ 9 = omega arith in
+    let done = l.invariant ∙ ap (λ (n : ℕ). rounds n w c.add_round_key-s.result) nine in
     cc

@@ -1,11 +1,11 @@
 -- `aes::inv_mix_columns` meets its contract, column by column.
 -- Assumes nothing.
+use borrow.Author.Rules.{rules}
 use Rattle.aes.proofs.Columns.{joined}
 use Rattle.aes.specs.Steps.{inv_mix_columns}
 use Rattle.aes.proofs.inv_mix_columns.Goals as goal
 
 pub returns : goal.returns
 unfolding inv_mix_columns
-returns c = joined _ _ _ _ c.args.s _ _ _ _ _ c.join.ensures
-    c.inv_mix_at.ensures c.inv_mix_at-2.ensures
-    c.inv_mix_at-3.ensures c.inv_mix_at-4.ensures
+returns c = let all = c.each_column.ensures in
+    joined 0x0e 0x09 0x0d 0x0b c.args.s _ all.a all.b all.c all.d all.whole (search rules) (search rules) (search rules) (search rules)

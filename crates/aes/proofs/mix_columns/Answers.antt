@@ -1,11 +1,11 @@
 -- `aes::mix_columns` meets its contract, column by column.
 -- Assumes nothing.
+use borrow.Author.Rules.{rules}
 use Rattle.aes.proofs.Columns.{joined}
 use Rattle.aes.specs.Steps.{mix_columns}
 use Rattle.aes.proofs.mix_columns.Goals as goal
 
 pub returns : goal.returns
 unfolding mix_columns
-returns c = joined _ _ _ _ c.args.s _ _ _ _ _ c.join.ensures
-    c.mix_at.ensures c.mix_at-2.ensures
-    c.mix_at-3.ensures c.mix_at-4.ensures
+returns c = let all = c.each_column.ensures in
+    joined 0x02 0x01 0x01 0x03 c.args.s _ all.a all.b all.c all.d all.whole (search rules) (search rules) (search rules) (search rules)

@@ -1,8 +1,11 @@
--- `aes::sub_rotated` meets its contract: each entry that it reads is the S-box's.
+-- `aes::sub_rotated` meets its contract: each entry that the closure reads is the S-box's.
 -- Assumes nothing.
 use mathlib.Core.List.{[], ◌∷◌}
-use Prim.Native.Nat.{ℕ}
+use mathlib.Core.Path.{◌≡◌, refl, ◌∙◌}
+use Prim.Native.Nat.{ℕ, ◌+◌, ◌%◌}
 use borrow.Author.Rules.{rules}
+use Rattle.laws.proofs.Made.{made}
+use Rattle.laws.specs.Tabulate.{tabulate}
 use Rattle.field.proofs.Laws.{looked_up}
 use Rattle.field.specs.Sbox.{sbox}
 use Rattle.aes.specs.State.{byte}
@@ -11,11 +14,9 @@ use mir.Val.{Fits}
 use Rattle.aes.proofs.sub_rotated.Goals as goal
 
 pub returns : goal.returns
-returns c = let small : (k : ℕ) → Fits w8 (byte c.args.a k) = λ k. search rules in
-    let entry = looked_up sbox c.args.boxes.now in
-    λ i.
-    entry _ _ c.requires (small 1).fits c.look_up.ensures i
-    ∷ entry _ _ c.requires (small 2).fits c.look_up-2.ensures i
-    ∷ entry _ _ c.requires (small 3).fits c.look_up-3.ensures i
-    ∷ entry _ _ c.requires (small 0).fits c.look_up-4.ensures i
-    ∷ []
+unfolding tabulate
+returns c = let a = c.args in
+    let small : (k : ℕ) → Fits w8 (byte a.a k) = λ k. search rules in
+    let entry : (k : ℕ) → byte a.boxes.now (byte a.a k) ≡ sbox (byte a.a k) = λ k. looked_up sbox a.boxes.now (byte a.a k) _ c.requires (small k).fits refl in
+    made _ _ (λ j. byte a.boxes.now (byte a.a ((j + 1) % 4))) 4 (λ i y q below called. search rules) c.from_fn.result c.from_fn.ensures.items
+    ∙ (λ i. entry 1 i ∷ entry 2 i ∷ entry 3 i ∷ entry 0 i ∷ [])

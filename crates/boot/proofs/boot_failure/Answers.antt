@@ -1,13 +1,17 @@
 -- `boot::boot_failure` meets its contract.
 -- Assumes nothing.
 use Rattle.boot.specs.Boot as booting
-use Rattle.device.proofs.Account.{is_refused, is_done}
+use Rattle.device.proofs.Account.{refuses, does}
+use mathlib.Core.Path.{◌≡◌}
+use borrow.Author.Rules.{rules}
+use Rattle.std.specs.Prelude.{Err}
 use Rattle.boot.proofs.boot_failure.Goals as goal
 
-pub returns-then-answer-ne-NO_ERROR : goal.returns-then-answer-ne-NO_ERROR
+pub returns-in_err-check_stage : goal.returns-in_err-check_stage
 unfolding booting.boot_failure
-returns-then-answer-ne-NO_ERROR c = is_refused _ _ _ c.stage_answer-answer.ensures c.if-answer-ne-NO_ERROR.true
+returns-in_err-check_stage c = let h : c.from_residual.result ≡ Err c.in_err-check_stage.field-0.0 = search rules in
+    rw h (refuses _ _ _ c.in_err-check_stage.ensures)
 
 pub returns : goal.returns
 unfolding booting.boot_failure
-returns c = is_done _ _ _ c.stage_answer-answer.ensures c.if-answer-ne-NO_ERROR.false
+returns c = does _ _ c.in_ok-check_stage.ensures

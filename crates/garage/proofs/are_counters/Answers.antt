@@ -1,17 +1,16 @@
--- `garage::are_counters` meets its contract: the loop tests one after the other.
+-- `garage::are_counters` meets its contract.
 -- Assumes nothing.
-use Rattle.laws.proofs.Test.{all_none, all_more, all_made}
+use mathlib.Core.Path.{◌∙◌}
 use borrow.Author.Rules.{rules}
-use mathlib.Core.Path.{refl}
+use borrow.Author.Tests.{tests}
+use lib.Dec.{leb}
+use Prim.Native.Nat.{ℕ}
+use Rattle.std.proofs.lemmas.Iterator.{YieldsList-from_slice}
+use Rattle.std.proofs.lemmas.Iterator.Search.{all_from_yields_List}
+use Rattle.message.specs.FirstBlock.{max_counter}
+use Rattle.garage.proofs.AllOf.{all_of}
 use Rattle.garage.proofs.are_counters.Goals as goal
 
-pub loop-i-init : goal.loop-i-init
-loop-i-init c = (search rules, all_none _)
-
-pub loop-i-preserved : goal.loop-i-preserved
-loop-i-preserved c = let l = c.loop-i in
-    (search rules, all_more _ l.i l.fine _ l.invariant.1 refl)
-
 pub returns : goal.returns
-returns c = let l = c.loop-i in
-    all_made _ l.i 13 l.fine (search rules) l.invariant.1
+returns c = all_from_yields_List (λ (counter : ℕ). leb counter max_counter) _ _ _ c.all.ensures.ran (YieldsList-from_slice c.args.counters.now cc) (λ x b q k. search (rules, tests))
+    ∙ all_of (λ (counter : ℕ). leb counter max_counter) c.args.counters.now

@@ -1,17 +1,15 @@
--- `garage::are_marks` meets its contract: the loop tests one after the other.
+-- `garage::are_marks` meets its contract.
 -- Assumes nothing.
-use Rattle.laws.proofs.Test.{all_none, all_more, all_made}
+use mathlib.Core.Path.{◌∙◌}
 use borrow.Author.Rules.{rules}
-use mathlib.Core.Path.{refl}
+use borrow.Author.Tests.{tests}
+use lib.Dec.{leb}
+use Prim.Native.Nat.{ℕ}
+use Rattle.std.proofs.lemmas.Iterator.{YieldsList-from_slice}
+use Rattle.std.proofs.lemmas.Iterator.Search.{all_from_yields_List}
+use Rattle.garage.proofs.AllOf.{all_of}
 use Rattle.garage.proofs.are_marks.Goals as goal
 
-pub loop-i-init : goal.loop-i-init
-loop-i-init c = (search rules, all_none _)
-
-pub loop-i-preserved : goal.loop-i-preserved
-loop-i-preserved c = let l = c.loop-i in
-    (search rules, all_more _ l.i l.fine _ l.invariant.1 refl)
-
 pub returns : goal.returns
-returns c = let l = c.loop-i in
-    all_made _ l.i 15 l.fine (search rules) l.invariant.1
+returns c = all_from_yields_List (λ (mark : ℕ). leb mark 1) _ _ _ c.all.ensures.ran (YieldsList-from_slice c.args.held.now cc) (λ x b q k. search (rules, tests))
+    ∙ all_of (λ (mark : ℕ). leb mark 1) c.args.held.now

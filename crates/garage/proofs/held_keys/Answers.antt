@@ -1,20 +1,15 @@
--- `garage::held_keys` meets its contract: the loop fills the store byte by byte.
+-- `garage::held_keys` meets its contract.
 -- Assumes nothing.
-use Rattle.laws.proofs.Tabulate.{fill, filled}
-use Rattle.laws.specs.Tabulate.{tabulate}
+use mathlib.Core.Bool.{cond}
+use Prim.Native.Nat.{ℕ, ◌/◌}
 use borrow.Author.Rules.{rules}
+use Rattle.laws.proofs.Made.{made}
+use Rattle.aes.specs.State.{byte}
+use Rattle.basics.specs.Marks.{is_on}
 use Rattle.garage.specs.Open.{held_keys}
 use Rattle.garage.proofs.held_keys.Goals as goal
 
-pub loop-i-init : goal.loop-i-init
-unfolding tabulate
-loop-i-init c = search rules
-
-pub loop-i-preserved : goal.loop-i-preserved
-loop-i-preserved c = let l = c.loop-i in
-    (search rules, search rules, fill _ l.store l.i _ (search rules) c.where_held.ensures l.invariant.2)
-
 pub returns : goal.returns
 unfolding held_keys
-returns c = let l = c.loop-i in
-    filled _ l.store l.i 240 l.invariant.1 (search rules) l.invariant.2
+returns c = let a = c.args in
+    made _ _ (λ (i : ℕ). cond (is_on (byte a.held.now (i / 16))) (byte a.keys.now i) 0) 240 (λ i y q below called. search rules) _ c.from_fn.ensures.items

@@ -1,23 +1,13 @@
--- `modes::add` meets its contract: the loop fills the sum byte by byte.
+-- `modes::add` meets its contract: the closure gives the sums, byte by byte.
 -- Assumes nothing.
-use mathlib.Core.Path.{refl}
 use borrow.Author.Rules.{rules}
-use Rattle.laws.proofs.Tabulate.{fill, filled}
-use Rattle.laws.specs.Tabulate.{tabulate}
+use Rattle.laws.proofs.Made.{made}
 use Rattle.laws.specs.Xor.{◌xor◌}
+use Rattle.aes.specs.State.{byte}
 use Rattle.modes.specs.Blocks.{◌⊕◌}
 use Rattle.modes.proofs.add.Goals as goal
 
-pub loop-i-init : goal.loop-i-init
-unfolding tabulate
-loop-i-init c = search rules
-
-pub loop-i-preserved : goal.loop-i-preserved
-unfolding ◌xor◌
-loop-i-preserved c = let l = c.loop-i in
-    (search rules, search rules, fill _ l.sum l.i _ (search rules) refl l.invariant.2)
-
 pub returns : goal.returns
-unfolding ◌⊕◌
-returns c = let l = c.loop-i in
-    filled _ l.sum l.i 16 l.invariant.1 (search rules) l.invariant.2
+unfolding ◌⊕◌ ◌xor◌
+returns c = let a = c.args in
+    made _ _ (λ k. byte a.a k xor byte a.b k) 16 (λ i y q below called. search rules) c.from_fn.result c.from_fn.ensures.items

@@ -7,7 +7,8 @@ use Rattle.she.proofs.she_fleet_sheet.Goals as goal
 
 pub returns : goal.returns
 returns c = let a = c.args in
-    c.fleet_sheet.ensures
+    rw c.answer_of.ensures
+    (c.fleet_sheet.ensures
     ∙ rw (c.to_byte.ensures, c.to_byte-2.ensures, c.to_counter.ensures)
     (wide_short (replicate 15 0) a.authkey.now a.key.now a.m1.now a.m2.now a.m3.now
-    a.target a.authority a.counter)
+    a.target a.authority a.counter))

@@ -6,7 +6,8 @@ use Rattle.she.proofs.she_write_key.Goals as goal
 
 pub returns : goal.returns
 returns c = let a = c.args in
-    c.write_key.ensures
+    rw c.answer_of.ensures
+    (c.write.ensures
     ∙ rw (c.to_byte.ensures, c.to_byte-2.ensures, c.to_counter.ensures, c.to_byte-3.ensures)
     (wide_form a.uid.now a.authkey.now a.key.now a.m1.now a.m2.now a.m3.now
-    a.target a.authority a.counter a.flags)
+    a.target a.authority a.counter a.flags))

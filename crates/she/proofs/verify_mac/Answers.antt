@@ -21,7 +21,7 @@ unfolding commands.verify_mac
 returns c = let a = c.args in
     let gives : ℕ → List ℕ → ℕ × List (List ℕ)
     = λ (n : ℕ) (key : List ℕ). (bool_byte (mac_agrees n (cmac (cipher key) a.bits a.message.now) a.mac.now), []) in
-    c.verify_mac-found.ensures
+    c.verify_mac.ensures
     ∙ ap₂ (λ (s n : ℕ). perform (commands.verify_mac s a.bits a.message.now a.mac.now n) a.device)
     c.to_byte.ensures c.to_byte-2.ensures
     ∙ wide_slot a.device VerifyMac (record { lent = _; brought = _; lengths = _; gives = gives (saturated 255 a.macbits) }) a.slot

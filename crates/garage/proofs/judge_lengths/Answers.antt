@@ -1,9 +1,0 @@
--- `garage::judge_lengths` meets its contract as it stands.
--- Assumes nothing.
-use Rattle.laws.specs.Lengths.{right_lengths}
-use mathlib.Core.Path.{refl}
-use Rattle.garage.proofs.judge_lengths.Goals as goal
-
-pub returns : goal.returns
-unfolding right_lengths
-returns c = refl

@@ -1,5 +1,0 @@
-use lib.ListN.{length}
-use Rattle.vectors.proofs.write_bytes.Given as goal
-
-abbrev pub decreases-loop-left : goal.decreases-loop-left
-decreases-loop-left l = length l.left
