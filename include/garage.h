@@ -31,7 +31,7 @@ enum {
     GARAGE_COUNTERS = 13,     /* counters that a book is opened with, those of slots 1 to 13 */
     GARAGE_MARKS = 4,         /* marks of a book */
     GARAGE_BOOK_BYTES = 664,  /* bytes of a book, which its parts fill without a gap */
-    GARAGE_STACK_BYTES = 8192 /* room on the stack; 3,392 is the most that was measured, in garage_judge */
+    GARAGE_STACK_BYTES = 8192 /* room on the stack; 3,408 is the most that was measured, in garage_write */
 };
 
 /* The book: for one bus its UID, for each slot the key or none, its last counter, and at most one message that waits for its proof.

@@ -91,7 +91,7 @@ enum {
     SHE_MAX_BOOTLOADER = 65536,    /* bytes of the longest bootloader */
     SHE_MAX_COUNTER = 268435455,   /* the largest counter of a key message */
     SHE_DEVICE_BYTES = 404,        /* bytes of a device, which its parts fill without a gap */
-    SHE_STACK_BYTES = 4096         /* room on the stack; 3,104 is the most that was measured, in she_load_key */
+    SHE_STACK_BYTES = 4096         /* room on the stack; 2,944 is the most that was measured, in she_load_key */
 };
 
 /* The device. It is lent to every command and changed in place, and it may be copied, compared and stored as it is. To make one,

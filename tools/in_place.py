@@ -8,10 +8,10 @@ The body of these routines is one call of a command that takes the record by val
     *value = 0;                                     // one that gives a number beside its answer, or a yes or no by `.map(u8::from)`
     store(value, COMMAND(*device, ..))
     settle(book, COMMAND(*book, ..), verdict)       // one that gives a yes with the record after it, or a no
-    *book = Book::blank();                          // one that asks nothing of what the record held, and leaves it blank where it refuses
-    store(book, COMMAND(..))
+    store(device, COMMAND(..))                      // one that asks nothing of what the record held; or leaves it blank where it refuses,
+    *book = Book::blank();                          // with this before it
 
-with every other parameter in its order. So what their promises must exclude can be read off the source. This program finds the crates
+with every other parameter in its order, a wide one as a byte, `to_byte(slot)`. So what their promises must exclude can be read off the source. This program finds the crates
 that have such routines, and makes two wrong programs of each: a function in the place of the command that answers 0 and leaves all as it
 was, and one that refuses all. The twin of both calls the command, under the routine's own promise.
 """
@@ -25,7 +25,7 @@ HEAD = r'pub (?:extern "C" )?fn (?P<name>\w+)\(\s*(?P<record>\w+): &mut (?P<stru
 ROUTINE = re.compile(
     r"(?P<head>(?:#\[unsafe\(no_mangle\)\]\n)?" + HEAD + r",?(?P<parameters>[^)]*)\) -> u8\s+ensures \{ (?P<promise>.*) \}\s+\{)"
     r"\s+(?://.*\s+)*(?:(?P<before>\*\w+ = [^;]*;)\s+)?(?P<use>store|answer_of|settle)\(\s*(?:(?P<place>\w+),\s*)?"
-    r"(?P<call>(?P<command>[\w:]+)\((?P<passed>[^)]*)\))(?P<conversion>\.map\(u8::from\))?,?\s*(?P<through>\w+)?,?\s*\)\s+\}")
+    r"(?P<call>(?P<command>[\w:]+)\((?P<passed>(?:[^()]|\([^()]*\))*)\))(?P<conversion>\.map\(\s*u8::from,?\s*\))?,?\s*(?P<through>\w+)?,?\s*\)\s+\}")
 
 
 def listed(text):
@@ -33,7 +33,8 @@ def listed(text):
 
 
 # where a promise of a function in the place of a command has its names from, for a crate whose own promises need fewer
-HOMES = {"answer_of": "Rattle.basics.specs.Answers", "result_unwrap_or": "Rattle.std.specs.Result", "blank": "Rattle.garage.specs.Open"}
+HOMES = {"answer_of": "Rattle.basics.specs.Answers", "result_unwrap_or": "Rattle.std.specs.Result", "blank": "Rattle.garage.specs.Open",
+         "bool_byte": "mir.Val", "false": "Rattle.std.specs.Prelude"}
 
 
 class Routine:
@@ -42,13 +43,17 @@ class Routine:
         self.crate, self.imported, self.head, self.name = crate, imported, head, name
         self.record, self.struct, self.promise = record, struct, promise
         self.use, self.call, self.command, self.is_verdict, self.before = use, call, command, conversion is not None, before
-        self.changes, self.is_anew = place == record, before == f"*{record} = {struct}::blank();"
+        self.changes, self.is_blanked = place == record, before == f"*{record} = {struct}::blank();"
         # a parameter through which a number goes out
         self.value = through or (None if place in (record, None) else place)
-        self.parameters = {parameter: kind for parameter, _, kind in (item.partition(": ") for item in listed(parameters))
-                           if parameter != self.value}
-        given = [*([] if self.is_anew else [f"*{record}"]), *self.parameters]
-        fine = listed(passed) == given and (before is None or self.is_anew or before == f"*{self.value} = 0;")
+        passed = listed(passed)
+        self.is_anew = passed[:1] != [f"*{record}"]
+        self.passed = passed if self.is_anew else passed[1:]
+        # as the command takes them
+        self.parameters = {parameter: "u8" if f"to_byte({parameter})" in self.passed else kind
+                           for parameter, _, kind in (item.partition(": ") for item in listed(parameters)) if parameter != self.value}
+        given = [re.sub(r"^to_byte\((\w+)\)$", r"\1", item) for item in self.passed]
+        fine = given == [*self.parameters] and (before is None or self.is_blanked or before == f"*{self.value} = 0;")
         assert fine, f"{crate}::{name} passes something else on, or writes something else before"
 
     def given(self):
@@ -56,7 +61,7 @@ class Routine:
         if self.use == "settle":
             return "None", f"Option<{self.struct}>", None
         if self.changes:
-            return self.record, self.struct, "blank" if self.is_anew else self.record
+            return self.record, self.struct, "blank" if self.is_blanked else self.record
         if self.is_verdict:
             return "false", "bool", "false"
         return ("0", "u8", "0") if self.value else ("()", "()", None)
@@ -75,7 +80,7 @@ class Routine:
     def idle(self, answer):
         """the same, that this is answered and all left as it was, with 0 for a number that goes out"""
         left = re.sub(r"(?<![\w.])result(?![\w.])", str(answer), self.promise.partition(" ≡ ")[0])
-        left = left.replace(f"{self.record}.new", "blank" if self.is_anew and answer else self.record)
+        left = left.replace(f"{self.record}.new", "blank" if self.is_blanked and answer else self.record)
         for name in self.parameters:
             left = left.replace(f"{name}.new", f"{name}.old")
         left = left.replace(f"{self.value}.new", "0") if self.value else left
@@ -84,7 +89,7 @@ class Routine:
     def stand_in(self, promise, body):
         """a function in the place of the command, with the record before it and its parameters"""
         taken = "".join(f", {name}: {kind}" for name, kind in self.parameters.items())
-        head = f"fn stand_in({self.record}: {self.struct}{taken}) -> Result<{self.given()[1]}, Refusal>"
+        head = f"fn stand_in({self.record}: {self.struct}{taken}) -> Result<{self.given()[1]}, basics::Refusal>"
         uses = "".join(f"ghost use {home}.{{{name}}};\n" for name, home in HOMES.items()
                        if name not in self.imported and re.search(rf"\b{name}\b", promise))
         return f"{uses}{head} ensures {{ {promise} }} {{ {body} }}\n\n"
@@ -92,13 +97,13 @@ class Routine:
     def wrong_programs(self):
         """Crate, routine, name, reason, and the changes of the source: a text that stands there once, its wrong replacement and its
         right one."""
-        record = "before" if self.is_anew else f"*{self.record}"
-        calls = [(self.call, f"stand_in({', '.join([record, *self.parameters])})", None)]
-        if self.is_anew:
+        record = "before" if self.is_blanked else f"*{self.record}"
+        calls = [(self.call, f"stand_in({', '.join([record, *self.passed])})", None)]
+        if self.is_blanked:
             calls.append((self.before, f"let before = *{self.record}; {self.before}", None))
         right = self.stand_in(self.said(), f"{self.command}({', '.join([*([] if self.is_anew else [self.record]), *self.parameters])})")
         for does, answer, body, why in (("only_answers", 0, f"Ok({self.given()[0]})", "answers 0 and leaves all as it was"),
-                                        ("refuses_all", 12, "Err(Refusal::GeneralError)", "refuses all")):
+                                        ("refuses_all", 12, "Err(basics::Refusal::GeneralError)", "refuses all")):
             put = (self.head, self.stand_in(self.idle(answer), body) + self.head, right + self.head)
             yield self.crate, self.name, f"{self.name}_{does}", why, [*calls, put]
 

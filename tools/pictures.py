@@ -108,7 +108,7 @@ STATIONS = {
           "the firmware|answer, M4, M5"],
     "she": ["`she_load_key`|copies record", "", "", "`she_load_key`|stores record"],
     "load": ["3 `check_guard`|the first checks", "4 `authority_key`|its key, or FF", "5 `check_opened`|the last checks",
-             "6 `store`|counter, flags"],
+             "6 `put_loaded`|counter, flags"],
     "device": ["`is_made`|flags and lock", "`key_at`|the key, read", "`counter_at`|UID, flags too", "`put_slot`|slot anew"],
     "message": ["`is_allowed`|the pair", "`open`|M3, then M2", "", "`write_proof`|M4 and M5"],
     "modes": ["", "`text_mac`|`cbc_decrypt`", "", "`derive`|`text_mac`"],

@@ -29,8 +29,9 @@ FACT = re.compile(r"(?:\./)?proofs/(?!\S*Invariants\.antt)\S+ error: `[^`]+`: "
                   r"|fn \S+: no proof: expected answers in \S+; `search` did not prove `")
 # nor for a name, or a step of the walk or a part of a proof, that is not there.
 BY_NAME = re.compile(r"is not in scope|can be named from here|has no field|has no `|already a name|is applied to an argument")
-# And some of it only says that something that it needs was refused before.
-FOLLOWS = re.compile(r"was (?:not admitted|rejected)|which (?:is|are) not proved"
+# And some of it only says that something that it needs was refused before: so a function of which no goal is named, where a lemma that
+# its attribute names was.
+FOLLOWS = re.compile(r"was (?:not admitted|rejected)|which (?:is|are) not proved|no proof: expected answers in \S+$"
                      r"|the borrow checker's part in its proof is not made yet: a call of")
 
 

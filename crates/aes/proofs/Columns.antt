@@ -11,8 +11,8 @@ use Rattle.laws.proofs.Xor.{sums, xor_byte}
 use Rattle.field.specs.Field.{xtime, mul}
 use Rattle.field.proofs.Laws.{linear, mul_byte}
 use Rattle.aes.specs.State.{byte, Bytes}
-use Rattle.aes.specs.Engine.{on_column, four_columns}
-use Rattle.aes.specs.Steps.{matrix, columns, mix_column, inv_mix_column}
+use Rattle.aes.specs.Engine.{on_column}
+use Rattle.aes.specs.Steps.{matrix, mix_column, inv_mix_column}
 use Rattle.aes.proofs.Bytes.{four_bytes}
 
 -- the first byte of the column that a mixing gives; each other is the first on the column turned
@@ -59,28 +59,16 @@ matrix_bytes a0 a1 a2 a3 b0 b1 b2 b3 h0 h1 h2 h3 =
     row : (p q r t : ℕ) → mul p b0 xor mul q b1 xor mul r b2 xor mul t b3 < 256
     row p q r t = xor_byte _ _ (xor_byte _ _ (xor_byte _ _ (mul_byte p b0 h0) (mul_byte q b1 h1)) (mul_byte r b2 h2)) (mul_byte t b3 h3)
 
--- ---- what the engine computes, with ab for the double of a + b, and so on; `all` for the sum of the column, on the way back
--- with 8 of it, which is twice 4 (a + c) + 4 (b + d)
-pub mixed : (a b c d ab bc cd da all : ℕ)
-    → ab ≡ xtime (a xor b) → bc ≡ xtime (b xor c) → cd ≡ xtime (c xor d) → da ≡ xtime (d xor a) → all ≡ a xor b xor c xor d
-    → (a xor all xor ab) ∷ (b xor all xor bc) ∷ (c xor all xor cd) ∷ (d xor all xor da) ∷ [] ≡ mix_column a b c d
+-- ---- what the engine computes: the sum of the column is shared, and on the way back the doublings of neighbours' sums are
+pub mixed : (a b c d : ℕ) → let all : ℕ = a xor b xor c xor d in
+    mix_column a b c d
+    ≡ (a xor all xor xtime (a xor b)) ∷ (b xor all xor xtime (b xor c)) ∷ (c xor all xor xtime (c xor d)) ∷ (d xor all xor xtime (d xor a)) ∷ []
 unfolding matrix
-mixed a b c d ab bc cd da all hab hbc hcd hda hall = rw (hall, hab, hbc, hcd, hda) (simp linear)
+mixed a b c d = simp linear
 
-pub inv_mixed : (a b c d ab bc cd ac bd all : ℕ)
-    → ab ≡ xtime (a xor b) → bc ≡ xtime (b xor c) → cd ≡ xtime (c xor d) → ac ≡ xtime (ab xor bc) → bd ≡ xtime (bc xor cd)
-    → all ≡ a xor b xor c xor d xor xtime (ac xor bd)
-    → (a xor ab xor ac xor all) ∷ (b xor bc xor bd xor all) ∷ (c xor cd xor ac xor all) ∷ (d xor (ab xor bc xor cd) xor bd xor all) ∷ []
-    ≡ inv_mix_column a b c d
+pub inv_mixed : (a b c d : ℕ) → let ab : ℕ = xtime (a xor b) in let bc : ℕ = xtime (b xor c) in let cd : ℕ = xtime (c xor d) in
+    let ac : ℕ = xtime (ab xor bc) in let bd : ℕ = xtime (bc xor cd) in
+    let all : ℕ = a xor b xor c xor d xor xtime (ac xor bd) in
+    inv_mix_column a b c d ≡ (a xor ab xor ac xor all) ∷ (b xor bc xor bd xor all) ∷ (c xor cd xor ac xor all) ∷ (d xor (ab xor bc xor cd) xor bd xor all) ∷ []
 unfolding matrix
-inv_mixed a b c d ab bc cd ac bd all hab hbc hcd hac hbd hall = rw (hall, hac, hbd, hab, hbc, hcd) (simp linear)
-
--- a state of four columns, each of them mixed
-pub joined : (a0 a1 a2 a3 : ℕ) (s t p q r x : List ℕ) → t ≡ four_columns p q r x
-    → p ≡ matrix a0 a1 a2 a3 (byte s 0) (byte s 1) (byte s 2) (byte s 3)
-    → q ≡ matrix a0 a1 a2 a3 (byte s 4) (byte s 5) (byte s 6) (byte s 7)
-    → r ≡ matrix a0 a1 a2 a3 (byte s 8) (byte s 9) (byte s 10) (byte s 11)
-    → x ≡ matrix a0 a1 a2 a3 (byte s 12) (byte s 13) (byte s 14) (byte s 15)
-    → t ≡ columns (matrix a0 a1 a2 a3) s
-unfolding columns matrix
-joined a0 a1 a2 a3 s t p q r x e hp hq hr hx = e ∙ (λ i. four_columns (hp i) (hq i) (hr i) (hx i))
+inv_mixed a b c d = simp linear

@@ -1,9 +1,9 @@
 -- The S-box read from a table, a turn of the loops over the rounds, there and back, and the cipher by its schedule. The loops
 -- keep "rounds 1 to r are done" on the way there, and "rounds r to 1 are left" on the way back.
 -- Assumes nothing.
-use mathlib.Core.Path.{◌≡◌, refl, sym, ap, ap₂, ◌∙◌}
+use mathlib.Core.Path.{◌≡◌, refl, ap}
 use mathlib.Core.List.{List}
-use Prim.Native.Nat.{ℕ, suc, ◌+◌, ◌-◌, ◌≤◌, ◌<◌}
+use Prim.Native.Nat.{ℕ, zero, suc, ◌-◌, ◌≤◌}
 use native.Mathlib.Omega.{arith}
 use Rattle.laws.proofs.Tabulate.{tabulate_same}
 use Rattle.field.specs.Sbox.{table}
@@ -18,20 +18,28 @@ pub by_table : (f : ℕ → ℕ) (boxes s : List ℕ) → boxes ≡ table f → 
 unfolding substitute
 by_table f boxes s whole h = tabulate_same 16 _ _ (λ k l. looked_up f boxes (byte s k) _ whole (h k) refl)
 
--- the rounds below r are done, and round r
-pub one_more : (w s₀ s t : List ℕ) (r : ℕ) → 1 ≤ r → s ≡ rounds (r - 1) w s₀ → t ≡ round w r s → t ≡ rounds (r + 1 - 1) w s₀
+-- no round, and the last of some
+pub rounds_none : (w s : List ℕ) → rounds 0 w s ≡ s
 unfolding rounds
-one_more w s₀ s t r h done e =
-    let this : r ≡ suc (r - 1) = omega arith in
-    let next : r + 1 - 1 ≡ suc (r - 1) = omega arith in
-    e ∙ ap₂ (λ (k : ℕ) (x : List ℕ). round w k x) this done ∙ sym (ap (λ (k : ℕ). rounds k w s₀) next)
+rounds_none w s = refl
 
--- r rounds are left, and one less
-pub one_less : (w s t g : List ℕ) (r : ℕ) → 0 < r → inv_rounds r w s ≡ g → t ≡ inv_round w r s → inv_rounds (r - 1) w t ≡ g
+pub rounds_last : (w s : List ℕ) (r : ℕ) → 1 ≤ r → rounds r w s ≡ round w r (rounds (r - 1) w s)
+unfolding rounds
+rounds_last w s zero h = absurd (omega arith)
+rounds_last w s (suc r) h = let back : r ≡ suc r - 1 = omega arith in ap (λ (n : ℕ). round w (suc r) (rounds n w s)) back
+
+pub inv_rounds_none : (w s : List ℕ) → inv_rounds 0 w s ≡ s
 unfolding inv_rounds
-one_less w s t g r h left e =
-    let next : r ≡ suc (r - 1) = omega arith in
-    ap (inv_rounds (r - 1) w) (e ∙ ap (λ (k : ℕ). inv_round w k s) next) ∙ sym (ap (λ (k : ℕ). inv_rounds k w s) next) ∙ left
+inv_rounds_none w s = refl
+
+pub inv_rounds_first : (w s : List ℕ) (r : ℕ) → 1 ≤ r → inv_rounds r w s ≡ inv_rounds (r - 1) w (inv_round w r s)
+unfolding inv_rounds
+inv_rounds_first w s zero h = absurd (omega arith)
+inv_rounds_first w s (suc r) h = let back : r ≡ suc r - 1 = omega arith in ap (λ (n : ℕ). inv_rounds n w (inv_round w (suc r) s)) back
+
+pub ruleset turns = (rounds_none, rounds_last)
+
+pub ruleset inv_turns = (inv_rounds_none, inv_rounds_first)
 
 -- under the schedule of a key
 pub ciphers : (key w : List ℕ) → w ≡ key_expansion key → cipher_with w ≡ cipher key

@@ -1,12 +1,12 @@
 -- The key schedule: it is of bytes; and a turn of the loop that makes it.
 -- Assumes nothing.
-use mathlib.Core.Path.{◌≡◌, refl, sym, ap, ap₂, ◌∙◌, subst}
+use mathlib.Core.Path.{◌≡◌, refl, ap, ap₂, ◌∙◌}
 use mathlib.Core.List.{List, [], ◌∷◌, ◌++◌}
 use Prim.Native.Nat.{ℕ, zero, suc, ◌+◌, ◌-◌, ◌*◌, ◌/◌, ◌%◌, ◌<◌, ◌≤◌}
 use native.Mathlib.Omega.{arith}
 use lib.Dec.{lit<}
-use lib.ListN.{length, take}
-use lib.Seq.{get_or-take, paste, length-paste, take_all, take-paste}
+use lib.ListN.{take}
+use lib.Seq.{get_or-take, take_all}
 use Rattle.laws.specs.Xor.{◌xor◌}
 use Rattle.laws.proofs.Xor.{xor_byte}
 use Rattle.field.proofs.Laws.{xtime_byte, sbox_byte}
@@ -49,20 +49,6 @@ pub expansion_bytes : (key : List ℕ) → Bytes key → Bytes (key_expansion ke
 unfolding key_expansion
 expansion_bytes key h = more_bytes 40 4 key h
 
--- ---- the next word, by the two cases of the standard
-pub next_turned : (w : List ℕ) (i : ℕ) → i % 4 ≡ 0
-    → add_word (word w (i - 4)) (add_word (sub_word (rot_word (word w (i - 1)))) (rcon (i / 4))) ≡ next_word w i
-unfolding next_word
-next_turned w i e = ap (λ (n : ℕ). add_word (word w (i - 4)) (temp w i n)) (sym e)
-
-pub next_plain : (w : List ℕ) (i : ℕ) → (i % 4 ≡ 0 → ⊥) → add_word (word w (i - 4)) (word w (i - 1)) ≡ next_word w i
-unfolding next_word
-next_plain w i h = plain (i % 4) h
-  where
-    plain : (n : ℕ) → (n ≡ 0 → ⊥) → add_word (word w (i - 4)) (word w (i - 1)) ≡ add_word (word w (i - 4)) (temp w i n)
-    plain zero h = absurd (h refl)
-    plain (suc n) h = refl
-
 -- ---- it reads only words that are made
 module _ (w : List ℕ) (i : ℕ) (h : 4 ≤ i) where
   made_byte : (n : ℕ) → n < 4 * i → byte (take (4 * i) w) n ≡ byte w n
@@ -81,28 +67,18 @@ module _ (w : List ℕ) (i : ℕ) (h : 4 ≤ i) where
   unfolding next_word
   made_next = ap₂ add_word (made_word (i - 4) (omega arith)) (made_temp (i % 4))
 
--- ---- the loop that makes it: the word is pasted, and `g` is the schedule that is to come out
-pub still_long : (w x : List ℕ) (i : ℕ) → length w ≡ 176 → i < 44 → x ≡ next_word w i → length (paste w (4 * i) x 4) ≡ 176
-unfolding next_word
-still_long w x i long high e =
-    let four : length x ≡ 4 = ap length e in
-    length-paste w (4 * i) x 4 (omega arith) (omega arith) ∙ long
-
-pub more : (w x g : List ℕ) (i : ℕ) → length w ≡ 176 → 4 ≤ i → i < 44 → x ≡ next_word w i
-    → more_words (44 - i) i (take (4 * i) w) ≡ g
-    → more_words (44 - (i + 1)) (i + 1) (take (4 * (i + 1)) (paste w (4 * i) x 4)) ≡ g
-unfolding more_words next_word
-more w x g i long low high e inv =
-    let left : 44 - i ≡ suc (44 - (i + 1)) = omega arith in
-    let end : 4 * (i + 1) ≡ 4 * i + 4 = omega arith in
-    let four : length x ≡ 4 = ap length e in
-    ap (more_words (44 - (i + 1)) (i + 1))
-    (ap (λ (n : ℕ). take n (paste w (4 * i) x 4)) end
-    ∙ take-paste w (4 * i) x 4 (omega arith) (omega arith)
-    ∙ ap (λ (l : List ℕ). take (4 * i) w ++ l) (take_all 4 x (omega arith) ∙ e ∙ sym (made_next w i low)))
-    ∙ subst (λ (n : ℕ). more_words n i (take (4 * i) w) ≡ g) left inv
-
-pub made : (w g : List ℕ) (i : ℕ) → length w ≡ 176 → i ≡ 44 → more_words (44 - i) i (take (4 * i) w) ≡ g → w ≡ g
+-- ---- the loop that makes it: no word is left, or one more is made
+pub words_none : (i : ℕ) (w : List ℕ) → more_words 0 i w ≡ w
 unfolding more_words
-made w g i long end inv =
-    sym (take_all 176 w (omega arith)) ∙ subst (λ (n : ℕ). more_words (44 - n) n (take (4 * n) w) ≡ g) end inv
+words_none i w = refl
+
+pub words_first : (n i at : ℕ) (w : List ℕ) → 1 ≤ n → 4 ≤ i → at ≡ 4 * i
+    → more_words n i (take at w) ≡ more_words (n - 1) (i + 1) (take at w ++ next_word w i)
+unfolding more_words
+words_first zero i at w some low place = absurd (omega arith)
+words_first (suc n) i at w some low place =
+    let same : next_word (take at w) i ≡ next_word w i = ap (λ (k : ℕ). next_word (take k w) i) place ∙ made_next w i low in
+    let left : n ≡ suc n - 1 = omega arith in
+    ap₂ (λ (m : ℕ) (x : List ℕ). more_words m (i + 1) (take at w ++ x)) left same
+
+pub ruleset expanding = (words_none, words_first, take_all)

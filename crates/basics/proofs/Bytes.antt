@@ -35,12 +35,11 @@ pub uid_whole : (text : List ℕ) → length text ≡ 15 → uid_from text ≡ t
 uid_whole text long = uid_front text (omega arith) ∙ take_all 15 text (omega arith)
 
 -- ---- a block put anew: n bytes are copied into their place, from a text that has no others
-pub copied : (d new s : List ℕ) (at n : ℕ) → length s ≡ n → new ≡ s
-    → take at d ++ (new ++ drop (at + n - at) (drop at d)) ≡ paste d at s n
-copied d new s at n long e =
+pub copied : (d new : List ℕ) (at n : ℕ) → length new ≡ n → take at d ++ (new ++ drop (at + n - at) (drop at d)) ≡ paste d at new n
+copied d new at n long =
     let rest : drop (at + n - at) (drop at d) ≡ drop (at + n) d = drop-drop (at + n - at) at d ∙ ap (λ (k : ℕ). drop k d) (omega arith) in
-    ap₂ (λ (x y : List ℕ). take at d ++ (x ++ y)) (e ∙ sym (take_all n s (omega (arith, long)))) rest
-    ∙ sym (append_assoc (take at d) (take n s) (drop (at + n) d))
+    ap₂ (λ (x y : List ℕ). take at d ++ (x ++ y)) (sym (take_all n new (omega (arith, long)))) rest
+    ∙ sym (append_assoc (take at d) (take n new) (drop (at + n) d))
 
 less_or_more : (a b : ℕ) → (a ≡ b → ⊥) → (a < b) ⊎ (b < a)
 less_or_more a b other = tests (leb b a) refl

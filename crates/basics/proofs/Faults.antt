@@ -3,7 +3,7 @@
 -- A function that answers is proved check by check, each way out by the tests before it.
 -- Assumes nothing.
 use mathlib.Core.Path.{◌≡◌, refl, sym, ap, ◌∙◌}
-use mathlib.Core.Bool.{Bool, true, false, cond, ◌&&◌}
+use mathlib.Core.Bool.{Bool, true, false, not, cond, ◌&&◌}
 use mathlib.Core.List.{List, [], ◌∷◌, ◌++◌}
 use Prim.Native.Nat.{ℕ}
 use lib.Dec.{eqb}
@@ -13,7 +13,7 @@ use Rattle.laws.proofs.Test.{both}
 use native.Mathlib.Omega.{arith}
 use Rattle.std.specs.Prelude.{Result, Ok, Err}
 use Rattle.std.specs.Result.{IsOk, result_unwrap_or}
-use Rattle.basics.specs.Answers.{no_error, number_of, answer_of, first_fault}
+use Rattle.basics.specs.Answers.{no_error, general_error, number_of, answer_of, first_fault}
 use Rattle.basics.specs.declared.Refusal.{Refusal}
 use Rattle.basics.specs.declared.Refusal.TheVariants.{SequenceError, KeyNotAvailable, KeyInvalid, KeyEmpty, NoSecureBoot, KeyWriteProtected, KeyUpdateError, RngSeed, GeneralError}
 
@@ -72,6 +72,21 @@ same_reply kept (Ok x) (Ok y) answer same = ap Ok same
 same_reply kept (Ok x) (Err y) answer same = absurd (never_zero y (sym answer))
 same_reply kept (Err x) (Ok y) answer same = absurd (never_zero x answer)
 same_reply kept (Err x) (Err y) answer same = ap Err (by_number x y answer)
+
+-- the two checks that every call of a record makes first, with the rest after them: what they refuse is refused, and what they let
+-- through has passed both
+abbrev pub first_two : Bool → Bool → ℕ → ℕ
+first_two a b rest = cond (not a) general_error (cond (not b) general_error rest)
+
+pub two_refuse : (a b : Bool) (rest : ℕ) (refusal : Refusal) → number_of refusal ≡ first_two a b no_error → number_of refusal ≡ first_two a b rest
+two_refuse true true rest refusal e = absurd (never_zero refusal e)
+two_refuse true false rest refusal e = e
+two_refuse false b rest refusal e = e
+
+pub two_pass : (a b : Bool) → no_error ≡ first_two a b no_error → (a ≡ true) × (b ≡ true)
+two_pass true true e = (refl, refl)
+two_pass true false e = absurd (omega (arith, e))
+two_pass false b e = absurd (omega (arith, e))
 
 -- what the front part has found is the answer, whatever comes after it
 found : (fault : Bool) (number more front : ℕ) → ((front ≡ 0 → ⊥) → more ≡ front) → (cond fault number front ≡ 0 → ⊥)

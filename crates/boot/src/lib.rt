@@ -28,17 +28,12 @@ fn size_block(size: u32) -> [u8; 16]
     block
 }
 
-#[tactic(auto, unfolding(device::specs::Account::answer_by))]
+#[tactic(auto, using(device::proofs::Account::first_checks), unfolding(device::specs::Account::answer_by))]
 fn check_boot(device: &Device, size: usize) -> Result<(), Refusal>
     ensures answer { answer_of result ≡ answer_by device.now (boot_lengths size) (boot_checks device.now) }
     ensures fits { OnOk result (size ≤ 65536) }
 {
-    if !device.is_made() {
-        return Err(Refusal::GeneralError);
-    }
-    if !(1..=65536).contains(&size) {
-        return Err(Refusal::GeneralError);
-    }
+    device.check((1..=65536).contains(&size))?;
     if device.is_marked(BOOTED_MARK) {
         return Err(Refusal::SequenceError);
     }
@@ -73,6 +68,7 @@ fn check(device: &mut Device, agrees: bool)
 }
 
 // Once per reset: the bootloader is learnt, or checked against what was learnt or loaded.
+#[tactic(auto, unfolding(device::specs::Account::perform, device::specs::Outcome::by_answer, crate::specs::Boot::secure_boot, crate::specs::Boot::measure))]
 pub fn secure_boot(device: Device, bootloader: &[u8]) -> Result<Device, Refusal>
     ensures { outcome (answer_of result) (result_unwrap_or result device) 0 [] ≡ perform (secure_boot bootloader.now) device }
 {
@@ -95,13 +91,11 @@ pub fn secure_boot(device: Device, bootloader: &[u8]) -> Result<Device, Refusal>
 // ---- later stages
 
 // The checks of the two commands by which later stages of booting tell how they ended.
-#[tactic(auto, unfolding(device::specs::Account::answer_by))]
+#[tactic(auto, using(device::proofs::Account::first_checks), unfolding(device::specs::Account::answer_by))]
 fn check_stage(device: &Device) -> Result<(), Refusal>
     ensures { answer_of result ≡ answer_by device.now true (stage_checks device.now) }
 {
-    if !device.is_made() {
-        return Err(Refusal::GeneralError);
-    }
+    device.check(true)?;
     if !device.is_marked(SECURE_BOOT_MARK) {
         return Err(Refusal::NoSecureBoot);
     }
@@ -112,6 +106,7 @@ fn check_stage(device: &Device) -> Result<(), Refusal>
 }
 
 // A later stage found something bad: from here on it is as if the check had failed.
+#[tactic(auto, unfolding(device::specs::Account::perform, device::specs::Outcome::by_answer, crate::specs::Boot::boot_failure))]
 pub fn boot_failure(device: Device) -> Result<Device, Refusal>
     ensures { outcome (answer_of result) (result_unwrap_or result device) 0 [] ≡ perform boot_failure device }
 {
@@ -123,6 +118,7 @@ pub fn boot_failure(device: Device) -> Result<Device, Refusal>
 }
 
 // All stages went well: BOOT_FAILURE is refused from here on.
+#[tactic(auto, unfolding(device::specs::Account::perform, device::specs::Outcome::by_answer, crate::specs::Boot::boot_ok))]
 pub fn boot_ok(device: Device) -> Result<Device, Refusal>
     ensures { outcome (answer_of result) (result_unwrap_or result device) 0 [] ≡ perform boot_ok device }
 {

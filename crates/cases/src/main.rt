@@ -43,7 +43,8 @@
 // M3, and through M4 and M5. A letter brings the key of its target.
 //
 // After a line of the book stands what is new in it: which slots are held once it is opened, the counter of a letter, and what a
-// yes has put in. After a refusal and after a no stands whether the book and the messages are as they were.
+// yes has put in. A book that could not be opened is blank. After a refused letter stands whether the messages are as they were.
+// After a no, and after a refused receipt, always stands that nothing changed: no other book comes, and M4 and M5 are only read.
 //
 // The fields that are written where they changed, with an example of those that hold several things:
 //
@@ -92,25 +93,18 @@ const ROWS: u8 = 35;
 
 // ---- answers
 
-fn name_of(refusal: Refusal) -> &'static str {
-    match refusal {
-        Refusal::SequenceError => "SEQUENCE_ERROR",
-        Refusal::KeyNotAvailable => "KEY_NOT_AVAILABLE",
-        Refusal::KeyInvalid => "KEY_INVALID",
-        Refusal::KeyEmpty => "KEY_EMPTY",
-        Refusal::NoSecureBoot => "NO_SECURE_BOOT",
-        Refusal::KeyWriteProtected => "KEY_WRITE_PROTECTED",
-        Refusal::KeyUpdateError => "KEY_UPDATE_ERROR",
-        Refusal::RngSeed => "RNG_SEED",
-        Refusal::GeneralError => "GENERAL_ERROR",
-    }
-}
-
-// The number and the name of an answer.
-fn named<T>(answer: &Result<T, Refusal>) -> (u8, &'static str) {
+fn name_of<T>(answer: &Result<T, Refusal>) -> &'static str {
     match answer {
-        Ok(_) => (0, "NO_ERROR"),
-        Err(refusal) => (refusal.number(), name_of(*refusal)),
+        Ok(_) => "NO_ERROR",
+        Err(Refusal::SequenceError) => "SEQUENCE_ERROR",
+        Err(Refusal::KeyNotAvailable) => "KEY_NOT_AVAILABLE",
+        Err(Refusal::KeyInvalid) => "KEY_INVALID",
+        Err(Refusal::KeyEmpty) => "KEY_EMPTY",
+        Err(Refusal::NoSecureBoot) => "NO_SECURE_BOOT",
+        Err(Refusal::KeyWriteProtected) => "KEY_WRITE_PROTECTED",
+        Err(Refusal::KeyUpdateError) => "KEY_UPDATE_ERROR",
+        Err(Refusal::RngSeed) => "RNG_SEED",
+        Err(Refusal::GeneralError) => "GENERAL_ERROR",
     }
 }
 
@@ -146,13 +140,6 @@ fn text_with(bit: u64) -> [u8; ROOM] {
     let mut text = [TEXT; ROOM];
     flip(&mut text, bit);
     text
-}
-
-// Puts a part into its place, as far as there is room.
-fn put(into: &mut [u8], at: usize, part: &[u8]) {
-    for (to, from) in into.iter_mut().skip(at).zip(part) {
-        *to = *from;
-    }
 }
 
 // M1 to M5, each in its place.
@@ -207,8 +194,9 @@ fn write_hex(mut out: Stdout, name: &str, bytes: &[u8]) -> io::Result<()> {
     out.write_all(text::front(&digits, n as u64))
 }
 
-fn write_answer<T>(mut out: Stdout, answer: &Result<T, Refusal>) -> io::Result<()> {
-    let (number, name) = named(answer);
+fn write_answer<T: Copy>(mut out: Stdout, answer: &Result<T, Refusal>) -> io::Result<()> {
+    let number = basics::answer_of(*answer);
+    let name = name_of(answer);
     write!(out, ": {number} {name}")
 }
 
@@ -364,8 +352,8 @@ fn verified(device: Device, block: [u8; 16], n: [u64; 12]) -> Result<u8, Refusal
     .map(u8::from)
 }
 
-fn write_role<T>(mut out: Stdout, answer: &Result<T, Refusal>, kept: bool) -> io::Result<()> {
-    let (number, _) = named(answer);
+fn write_role<T: Copy>(mut out: Stdout, answer: &Result<T, Refusal>, kept: bool) -> io::Result<()> {
+    let number = basics::answer_of(*answer);
     let words = if kept { "" } else { " CHANGED" };
     write!(out, " {number}{words}")
 }
@@ -443,17 +431,13 @@ fn written(device: Device, n: [u64; 12]) -> [u8; 112] {
     let authority = text::byte_of(n[1]) % 16;
     let authkey = sender_key(device, authority);
     let first = first_block(n[2], n[3], n[5]);
-    let mut m1 = uid_of(n[4]);
-    m1[15] = 16 * target + authority;
     let mut messages = [0u8; 112];
-    put(&mut messages, 0, &m1);
-    put(
-        &mut messages,
-        16,
-        &enciphered(authkey, first, slot_key(target)),
-    );
-    let m3 = signature(authkey, text::front(&messages, 48));
-    put(&mut messages, 48, &m3);
+    let (signed, after) = messages.split_at_mut(48);
+    let (m1, m2) = signed.split_at_mut(16);
+    m1.copy_from_slice(&uid_of(n[4]));
+    m1[15] = 16 * target + authority;
+    m2.copy_from_slice(&enciphered(authkey, first, slot_key(target)));
+    after[..16].copy_from_slice(&signature(authkey, signed));
     messages
 }
 
@@ -538,10 +522,6 @@ fn with_field(device: Device, field: u64, place: u64, value: u64) -> Device {
 
 // ---- the book
 
-fn word_at(words: &[u32], at: usize) -> u32 {
-    words.get(at).copied().unwrap_or(0)
-}
-
 // A mark for each slot, on where it is not empty, and one more for a wrong length. An empty mark that is neither on nor off gives
 // another such.
 fn held_marks(device: Device) -> [u8; 16] {
@@ -608,54 +588,37 @@ struct Bench {
 }
 
 impl Bench {
-    // The end of the line of a command that may change the device. What it put out is shown, or is to be as it was.
-    fn finish_change(
+    // The end of the line of a command. What it put out is shown, or is to be as it was; one that may change the device gives the
+    // one that it leaves.
+    fn finish_with(
         &mut self,
-        answer: Result<Device, Refusal>,
+        answer: Result<Option<Device>, Refusal>,
         clean: bool,
         shown: &[u8],
     ) -> io::Result<()> {
         write_answer(self.out, &answer)?;
-        match answer {
-            Ok(after) => {
-                if !shown.is_empty() {
-                    write_hex(self.out, ", ", shown)?;
-                }
-                write_change(self.out, self.device, after)?;
-                self.device = after;
-            }
-            Err(_) => write_kept(self.out, clean)?,
+        if answer.is_err() {
+            write_kept(self.out, clean)?;
+        } else if !shown.is_empty() {
+            write_hex(self.out, ", ", shown)?;
         }
-        writeln!(self.out)
+        match answer {
+            Ok(Some(after)) => self.finish_new(after),
+            _ => writeln!(self.out),
+        }
     }
 
     // Of one that has no output besides the device.
     fn finish(&mut self, answer: Result<Device, Refusal>) -> io::Result<()> {
-        self.finish_change(answer, true, &[])
-    }
-
-    // Of one that only reads the device.
-    fn finish_read(
-        &mut self,
-        answer: Result<(), Refusal>,
-        clean: bool,
-        shown: &[u8],
-    ) -> io::Result<()> {
-        write_answer(self.out, &answer)?;
-        match answer {
-            Ok(()) => write_hex(self.out, ", ", shown)?,
-            Err(_) => write_kept(self.out, clean)?,
-        }
-        writeln!(self.out)
+        self.finish_with(answer.map(Some), true, &[])
     }
 
     // Of one that gives a number.
     fn finish_number(&mut self, answer: Result<u8, Refusal>) -> io::Result<()> {
         write_answer(self.out, &answer)?;
-        let number = answer.unwrap_or(0);
-        write!(self.out, ", gives {number}")?;
-        if answer.is_err() {
-            write_kept(self.out, true)?;
+        match answer {
+            Ok(number) => write!(self.out, ", gives {number}")?,
+            Err(_) => write!(self.out, ", gives 0, nothing changed")?,
         }
         writeln!(self.out)
     }
@@ -682,7 +645,7 @@ impl Bench {
         let mut room = [FILLER; 32];
         let output = front_mut(&mut room, n[0]);
         let answer = commands::rnd(self.device, output);
-        self.finish_change(answer, is_filler(output), output)
+        self.finish_with(answer.map(Some), is_filler(output), output)
     }
 
     fn load_plain_key(&mut self, n: [u64; 12]) -> io::Result<()> {
@@ -703,13 +666,13 @@ impl Bench {
         let mut room = [FILLER; 48];
         let output = front_mut(&mut room, n[1]);
         let answer = commands::get_id(self.device, text::front(&[TEXT; 32], n[0]), output);
-        self.finish_read(answer, is_filler(output), output)
+        self.finish_with(answer.map(|()| None), is_filler(output), output)
     }
 
     fn use_slot(&mut self, cipher: Cipher, n: [u64; 12]) -> io::Result<()> {
         let tried = cipher.tried(self.device, n);
         self.block = tried.block;
-        self.finish_read(tried.answer, tried.clean, &tried.block)
+        self.finish_with(tried.answer.map(|()| None), tried.clean, &tried.block)
     }
 
     // With no number the last messages are loaded again.
@@ -722,14 +685,14 @@ impl Bench {
         let answer = load(self.device, &mut messages, n);
         self.messages = messages;
         let proof = &messages[64..];
-        self.finish_change(answer, is_filler(proof), proof)
+        self.finish_with(answer.map(Some), is_filler(proof), proof)
     }
 
     fn export_ram_key(&mut self, n: [u64; 12]) -> io::Result<()> {
         let mut messages = [FILLER; 112];
         let answer = export(self.device, &mut messages, n);
         self.messages = messages;
-        self.finish_read(answer, is_filler(&messages), &messages)
+        self.finish_with(answer.map(|()| None), is_filler(&messages), &messages)
     }
 
     fn open_book(&mut self, n: [u64; 12]) -> io::Result<()> {
@@ -749,7 +712,7 @@ impl Bench {
         write_answer(self.out, &answer)?;
         match answer {
             Ok(book) => {
-                let counter = word_at(&book.newcounters, text::byte_of(n[0]) as usize);
+                let counter = basics::item_at(&book.newcounters, text::byte_of(n[0]) as usize, 0);
                 write_hex(self.out, ", ", text::front(&messages, 64))?;
                 write!(self.out, ", counter {counter}")?;
                 self.book = book;
@@ -761,8 +724,7 @@ impl Bench {
     }
 
     fn receipt(&mut self, n: [u64; 12]) -> io::Result<()> {
-        let mut proof = [0u8; 48];
-        proof.copy_from_slice(&self.messages[64..]);
+        let mut proof: [u8; 48] = self.messages[64..].try_into().unwrap();
         flip(&mut proof, n[1]);
         let answer = judged(self.book, &proof, n);
         write_answer(self.out, &answer)?;
@@ -770,7 +732,7 @@ impl Bench {
             Ok(Some(book)) => {
                 let slot = text::byte_of(n[0]) as usize;
                 let held = basics::byte_at(&book.held, slot);
-                let counter = word_at(&book.counters, slot);
+                let counter = basics::item_at(&book.counters, slot, 0);
                 write!(self.out, ", gives 1, held {held}, counter {counter}")?;
                 self.book = book;
             }

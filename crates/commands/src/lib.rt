@@ -5,12 +5,12 @@
 // the device as it came in, with no buffer touched. Only then is a key used.
 //
 // The proofs see into the account of each command, and use what a check that found no fault tells of the lengths.
-#![tactic(auto, using(crate::proofs::Passed::passed), unfolding(laws::specs::Lengths::right_lengths, modes::specs::Answer::outcome, device::specs::Account::perform, device::specs::Outcome::by_answer, crate::specs::Commands::make, crate::specs::Commands::reset, crate::specs::Commands::attach_debugger, crate::specs::Commands::enc_ecb, crate::specs::Commands::dec_ecb, crate::specs::Commands::enc_cbc, crate::specs::Commands::dec_cbc, crate::specs::Commands::generate_mac, crate::specs::Commands::mac_agrees, crate::specs::Commands::verify_mac, crate::specs::Commands::load_plain_key, crate::specs::Commands::init_rng, crate::specs::Commands::extend_seed, crate::specs::Commands::rnd, crate::specs::Commands::get_status, crate::specs::Commands::identity, crate::specs::Commands::get_id))]
+#![tactic(auto, using(crate::proofs::Passed::passed, device::proofs::Account::first_checks), unfolding(laws::specs::Lengths::right_lengths, modes::specs::Answer::outcome, device::specs::Account::perform, device::specs::Outcome::by_answer, crate::specs::Commands::make, crate::specs::Commands::reset, crate::specs::Commands::attach_debugger, crate::specs::Commands::enc_ecb, crate::specs::Commands::dec_ecb, crate::specs::Commands::enc_cbc, crate::specs::Commands::dec_cbc, crate::specs::Commands::generate_mac, crate::specs::Commands::mac_agrees, crate::specs::Commands::verify_mac, crate::specs::Commands::load_plain_key, crate::specs::Commands::init_rng, crate::specs::Commands::extend_seed, crate::specs::Commands::rnd, crate::specs::Commands::get_status, crate::specs::Commands::identity, crate::specs::Commands::get_id))]
 
-ghost use Rattle.std.specs.Prelude.{◌≡◌, IfOk, false, ◌∷◌, [], ◌++◌, ◌<◌};
+ghost use Rattle.std.specs.Prelude.{◌≡◌, IfOk, OnOk, length, false, ◌∷◌, [], ◌++◌, ◌<◌};
 ghost use Rattle.std.specs.Result.{result_unwrap_or};
 ghost use mir.Val.{bool_byte};
-ghost use Rattle.basics.specs.Answers.{number_of, answer_of};
+ghost use Rattle.basics.specs.Answers.{answer_of};
 ghost use Rattle.device.specs.Account.{perform, answer_by};
 ghost use Rattle.device.specs.Made.{blank};
 ghost use Rattle.device.specs.Outcome.{outcome};
@@ -27,7 +27,8 @@ use modes::Constant;
 
 #[tactic(auto, unfolding(crate::specs::Commands::make_answer, laws::specs::Lengths::right_lengths))]
 fn check_make(uid: &[u8], secret: usize, seed: usize) -> Result<(), Refusal>
-    ensures { answer_of result ≡ make_answer uid.now secret seed }
+    ensures answer { answer_of result ≡ make_answer uid.now secret seed }
+    ensures long { OnOk result ((length uid.now ≡ 15) × (secret ≡ 16) × (seed ≡ 16)) }
 {
     let lengths = (uid.len() == 15) & (secret == 16) & (seed == 16);
     if !lengths {
@@ -40,47 +41,23 @@ fn check_make(uid: &[u8], secret: usize, seed: usize) -> Result<(), Refusal>
 }
 
 // A device with a UID, a SECRET_KEY and a seed.
+#[tactic(auto, using(basics::proofs::Bytes::block_whole, basics::proofs::Bytes::uid_whole), unfolding(device::specs::Outcome::by_answer, crate::specs::Commands::make))]
 pub fn make(uid: &[u8], secret: &[u8], seed: &[u8]) -> Result<Device, Refusal>
     ensures { outcome (answer_of result) (result_unwrap_or result blank) 0 [] ≡ make uid.now secret.now seed.now }
 {
     check_make(uid, secret.len(), seed.len())?;
     Ok(Device::fresh(
-        basics::uid_from(uid),
-        basics::block_at(secret, 0),
-        basics::block_at(seed, 0),
+        uid.try_into().unwrap(),
+        secret.try_into().unwrap(),
+        seed.try_into().unwrap(),
     ))
-}
-
-// The checks of a command that uses no slot: not made, lengths, and one fault of its own with its refusal.
-#[tactic(auto, unfolding(device::specs::Account::answer_by))]
-fn check_own(device: &Device, lengths: bool, fault: bool, refusal: Refusal) -> Result<(), Refusal>
-    ensures { answer_of result ≡ answer_by device.now lengths ((fault, number_of refusal) ∷ []) }
-{
-    if !device.is_made() {
-        return Err(Refusal::GeneralError);
-    }
-    if !lengths {
-        return Err(Refusal::GeneralError);
-    }
-    if fault {
-        return Err(refusal);
-    }
-    Ok(())
-}
-
-// And of one that has none of its own.
-#[tactic(auto, unfolding(device::specs::Account::answer_by))]
-fn check_other(device: &Device, lengths: bool) -> Result<(), Refusal>
-    ensures { answer_of result ≡ answer_by device.now lengths [] }
-{
-    check_own(device, lengths, false, Refusal::GeneralError)
 }
 
 // Power is lost: slot 14, the random numbers, the debugger and what the boot check found go.
 pub fn reset(device: Device) -> Result<Device, Refusal>
     ensures { outcome (answer_of result) (result_unwrap_or result device) 0 [] ≡ perform reset device }
 {
-    check_other(&device, true)?;
+    device.check(true)?;
     let mut after = Device {
         state: [0; 16],
         rngkey: [0; 16],
@@ -94,7 +71,7 @@ pub fn reset(device: Device) -> Result<Device, Refusal>
 pub fn attach_debugger(device: Device) -> Result<Device, Refusal>
     ensures { outcome (answer_of result) (result_unwrap_or result device) 0 [] ≡ perform attach_debugger device }
 {
-    check_other(&device, true)?;
+    device.check(true)?;
     let mut after = device;
     after.marks[DEBUGGER_MARK] = ON;
     Ok(after)
@@ -108,12 +85,7 @@ fn key_for(device: &Device, lengths: bool, slot: u8, role: Role) -> Result<[u8; 
     ensures answer { answer_of result ≡ answer_by device.now lengths (slot_checks device.now slot role) }
     ensures key { IfOk result (λ key. key ≡ key_at device.now slot) }
 {
-    if !device.is_made() {
-        return Err(Refusal::GeneralError);
-    }
-    if !lengths {
-        return Err(Refusal::GeneralError);
-    }
+    device.check(lengths)?;
     if !message::has_role(slot, role) {
         return Err(Refusal::KeyInvalid);
     }
@@ -217,17 +189,17 @@ pub fn verify_mac(
     let key = key_for(&device, lengths, slot, Role::VerifyMac)?;
     let mut expected = [0; 16];
     modes::cmac(&key, bits, message, &mut expected)?;
-    Ok(mac_agrees(macbits, expected, basics::block_at(mac, 0)))
+    Ok(mac_agrees(macbits, expected, mac.try_into().unwrap()))
 }
 
 // Sixteen bytes into slot 14, not empty, plain.
 pub fn load_plain_key(device: Device, key: &[u8]) -> Result<Device, Refusal>
     ensures { outcome (answer_of result) (result_unwrap_or result device) 0 [] ≡ perform (load_plain_key key.now) device }
 {
-    check_other(&device, key.len() == 16)?;
+    device.check(key.len() == 16)?;
     let mut after = device;
     after.marks[PLAIN_MARK] = ON;
-    after.put_slot(device::RAM_KEY, Slot::holding(basics::block_at(key, 0)));
+    after.put_slot(device::RAM_KEY, Slot::holding(key.try_into().unwrap()));
     Ok(after)
 }
 
@@ -237,8 +209,10 @@ pub fn load_plain_key(device: Device, key: &[u8]) -> Result<Device, Refusal>
 pub fn init_rng(device: Device) -> Result<Device, Refusal>
     ensures { outcome (answer_of result) (result_unwrap_or result device) 0 [] ≡ perform init_rng device }
 {
-    let begun = device.is_marked(RNG_MARK);
-    check_own(&device, true, begun, Refusal::SequenceError)?;
+    device.check(true)?;
+    if device.is_marked(RNG_MARK) {
+        return Err(Refusal::SequenceError);
+    }
     let secret = device.key_at(device::SECRET_KEY);
     let seed = aes::encrypt(modes::derive(secret, Constant::PrngSeedKey), device.seed);
     let rngkey = modes::derive(secret, Constant::PrngKey);
@@ -255,9 +229,11 @@ pub fn init_rng(device: Device) -> Result<Device, Refusal>
 pub fn extend_seed(device: Device, entropy: &[u8]) -> Result<Device, Refusal>
     ensures { outcome (answer_of result) (result_unwrap_or result device) 0 [] ≡ perform (extend_seed entropy.now) device }
 {
-    let begun = device.is_marked(RNG_MARK);
-    check_own(&device, entropy.len() == 16, !begun, Refusal::RngSeed)?;
-    let more = basics::block_at(entropy, 0);
+    device.check(entropy.len() == 16)?;
+    if !device.is_marked(RNG_MARK) {
+        return Err(Refusal::RngSeed);
+    }
+    let more = entropy.try_into().unwrap();
     let state = modes::extend(device.state, more);
     let seed = modes::extend(device.seed, more);
     Ok(Device {
@@ -270,8 +246,10 @@ pub fn extend_seed(device: Device, entropy: &[u8]) -> Result<Device, Refusal>
 pub fn rnd(device: Device, output: &mut [u8]) -> Result<Device, Refusal>
     ensures { outcome (answer_of result) (result_unwrap_or result device) 0 (output.new ∷ []) ≡ perform (rnd output.old) device }
 {
-    let begun = device.is_marked(RNG_MARK);
-    check_own(&device, output.len() == 16, !begun, Refusal::RngSeed)?;
+    device.check(output.len() == 16)?;
+    if !device.is_marked(RNG_MARK) {
+        return Err(Refusal::RngSeed);
+    }
     let state = aes::encrypt(device.rngkey, device.state);
     output.copy_from_slice(&state);
     Ok(Device { state, ..device })
@@ -282,19 +260,8 @@ pub fn rnd(device: Device, output: &mut [u8]) -> Result<Device, Refusal>
 pub fn get_status(device: Device) -> Result<u8, Refusal>
     ensures { outcome (answer_of result) device (result_unwrap_or result 0) [] ≡ perform get_status device }
 {
-    check_other(&device, true)?;
+    device.check(true)?;
     Ok(device.status())
-}
-
-// Two blocks, one after the other.
-fn join(a: [u8; 16], b: [u8; 16]) -> [u8; 32]
-    ensures { result ≡ a ++ b }
-{
-    let mut both = [0; 32];
-    let (first, second) = both.split_at_mut(16);
-    first.copy_from_slice(&a);
-    second.copy_from_slice(&b);
-    both
 }
 
 // UID and status.
@@ -308,12 +275,13 @@ fn identity(device: &Device) -> [u8; 16]
 
 // The MAC under MASTER_ECU_KEY, and zeros while that is empty.
 #[tactic(auto, using(basics::proofs::Bytes::block_long), unfolding(crate::specs::Commands::id_mac, modes::specs::Answer::outcome, modes::specs::Answer::cmac_lengths))]
-fn id_mac(device: &Device, text: &[u8; 32]) -> [u8; 16]
-    ensures { result ≡ id_mac device.now text.now }
+fn id_mac(device: &Device, challenge: [u8; 16], own: [u8; 16]) -> [u8; 16]
+    ensures { result ≡ id_mac device.now (challenge ++ own) }
 {
     let mut mac = [0; 16];
     if !device.is_empty(device::MASTER_ECU_KEY) {
-        modes::cmac(&device.key_at(device::MASTER_ECU_KEY), 256, text, &mut mac).unwrap();
+        let key = device.key_at(device::MASTER_ECU_KEY);
+        modes::cmac(&key, 256, [challenge, own].as_flattened(), &mut mac).unwrap();
     }
     mac
 }
@@ -323,10 +291,12 @@ pub fn get_id(device: Device, challenge: &[u8], output: &mut [u8]) -> Result<(),
     ensures { outcome (answer_of result) device 0 (output.new ∷ []) ≡ perform (get_id challenge.now output.old) device }
 {
     let lengths = (challenge.len() == 16) & (output.len() == 32);
-    let locked = device.is_locked(device::MASTER_ECU_KEY);
-    check_own(&device, lengths, locked, Refusal::KeyNotAvailable)?;
+    device.check(lengths)?;
+    if device.is_locked(device::MASTER_ECU_KEY) {
+        return Err(Refusal::KeyNotAvailable);
+    }
     let own = identity(&device);
-    let mac = id_mac(&device, &join(basics::block_at(challenge, 0), own));
-    output.copy_from_slice(&join(own, mac));
+    let mac = id_mac(&device, challenge.try_into().unwrap(), own);
+    output.copy_from_slice([own, mac].as_flattened());
     Ok(())
 }

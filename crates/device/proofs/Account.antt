@@ -3,14 +3,14 @@
 -- Assumes nothing.
 use mathlib.Core.Path.{◌≡◌, refl, sym, ap, ap₂, ◌∙◌, subst}
 use mathlib.Core.Bool.{Bool, true, false, not, cond}
-use mathlib.Core.List.{List}
+use mathlib.Core.List.{List, []}
 use Prim.Native.Nat.{ℕ}
 use native.Mathlib.Omega.{arith}
 use borrow.Author.Tests.{eq-eqb, ne_eqb, eqb-true, eqb-false, not-false}
 use lib.Dec.{eqb}
 use Rattle.basics.specs.Answers.{no_error, general_error, number_of, first_fault}
 use Rattle.basics.specs.declared.Refusal.{Refusal}
-use Rattle.basics.proofs.Faults.{no_fault, never_zero}
+use Rattle.basics.proofs.Faults.{no_fault, two_refuse, two_pass}
 use Rattle.device.specs.Account.{Account, answer_by, answer_to, success, perform}
 use Rattle.device.specs.Made.{made}
 use Rattle.device.specs.Outcome.{Outcome, refused, by_answer}
@@ -55,13 +55,6 @@ module _ (call : Account) (d : Device) where
     unfolding perform
     is_done h = where_done found (answer_to call d) (success call d) refusal e h
 
-  -- the same, of a function that refuses with a refusal
-  pub refuses : (refusal : Refusal) → number_of refusal ≡ answer_to call d → refused (number_of refusal) (call.refusal (number_of refusal) d) call.lent ≡ perform call d
-  refuses refusal e = is_refused (number_of refusal) e (never_zero refusal)
-
-  pub does : no_error ≡ answer_to call d → success call d ≡ perform call d
-  does e = is_done no_error e refl
-
   -- what holds of what a refusal leaves, and of the device after a success, holds of the device after the call
   pub either_way : (P : Device → Type 0) → ((answer_to call d ≡ 0 → ⊥) → P (call.refusal (answer_to call d) d))
       → (answer_to call d ≡ 0 → P (call.does d).0) → P (perform call d).device
@@ -100,3 +93,18 @@ module _ (d : Device) (lengths : Bool) (own : List (Bool × ℕ)) where
       let one = no_fault (not (made d)) general_error _ (λ z. omega arith) (sym (first_two (made d) lengths refl refl) ∙ e) in
       let two = no_fault (not lengths) general_error (first_fault own) (λ z. omega arith) one.1 in
       (not-false (made d) one.0, not-false lengths two.0, two.1)
+
+-- ---- those two made by themselves, before the call's own
+module _ (d : Device) (lengths : Bool) (own : List (Bool × ℕ)) where
+  -- what they refuse, the call refuses
+  pub refused_first : (refusal : Refusal) → number_of refusal ≡ answer_by d lengths [] → number_of refusal ≡ answer_by d lengths own
+  unfolding answer_by
+  refused_first = two_refuse (made d) lengths (first_fault own)
+
+  -- and where they find no fault, the call's own checks decide
+  pub own_decides : no_error ≡ answer_by d lengths [] → answer_by d lengths own ≡ first_fault own
+  unfolding answer_by
+  own_decides e = let passed = two_pass (made d) lengths e in then_own d lengths own passed.0 passed.1
+
+-- what proofs of calls use that begin so
+pub ruleset first_checks = (refused_first, own_decides)

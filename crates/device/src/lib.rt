@@ -4,15 +4,17 @@
 // from 0 to 255 and stay so: to read what is no slot gives zeros, and to put something there changes nothing.
 #![tactic(auto)]
 
-ghost use Rattle.std.specs.Prelude.{◌≡◌, ◌≤◌};
-ghost use Rattle.device.specs.Made.{is_zero, slot_fine, slots_fine, marks_fine, made, new_marks, unset, blank, fresh};
+ghost use Rattle.std.specs.Prelude.{◌≡◌, ◌≤◌, []};
+ghost use Rattle.basics.specs.Answers.{answer_of};
+ghost use Rattle.device.specs.Account.{answer_by};
+ghost use Rattle.device.specs.Made.{is_zero, slot_fine, slots_fine, made, new_marks, unset, blank, fresh};
 ghost use Rattle.device.specs.Record.{is_marked, key_at, counter_at, flags_at, is_empty, holding, emptied, slot_at, set_marks, put_slot, Shaped};
 ghost use Rattle.device.specs.Rules.{has_flag, kept, boot_failed, locked, usage_fits, bit_where, status};
 
-use basics::{OFF, ON};
+use basics::{OFF, ON, Refusal};
 use message::Role;
 
-// Slots that a rule names.
+// Slots that a rule names. A slot is a byte, since what is asked of one is answered for all 256.
 pub const SECRET_KEY: u8 = 0;
 
 pub const MASTER_ECU_KEY: u8 = 1;
@@ -25,7 +27,7 @@ pub const RAM_KEY: u8 = 14;
 
 // The places of the marks: random numbers are initialised, slot 14 came in plain, a debugger is attached, the device is made,
 // SECURE_BOOT succeeded since reset, and the four bits of the status about it. The other places are for marks to come: making and
-// reset leave them off, and every other call leaves them as they are.
+// reset leave them off, and every other call leaves them as they are. They are numbers, since a mark can be asked for at any place.
 pub const RNG_MARK: usize = 0;
 
 pub const PLAIN_MARK: usize = 1;
@@ -165,7 +167,7 @@ impl Device {
     pub fn counter_at(&self, slot: u8) -> u32
         ensures { result ≡ counter_at self.now slot }
     {
-        self.counters.get(slot as usize).copied().unwrap_or(0)
+        basics::item_at(&self.counters, slot as usize, 0)
     }
 
     pub fn flags_at(&self, slot: u8) -> u8
@@ -252,26 +254,12 @@ impl Device {
         ensures value { result ≡ slots_fine self }
         ensures shaped { Shaped self }
     {
-        let mut fine = true;
-        for slot in 0..SLOTS {
-            fine = fine & self.slot_at(slot).is_fine(slot);
-        }
-        fine
-    }
-
-    fn marks_fine(&self) -> bool
-        ensures { result ≡ marks_fine self.now }
-    {
-        let mut fine = true;
-        for mark in &self.marks {
-            fine = fine & (*mark <= ON);
-        }
-        fine
+        (0..SLOTS).all(|slot| self.slot_at(slot).is_fine(slot))
     }
 
     // Whether a record is one that making and the commands can have left. That every record has the shape which theorems ask of it
     // is promised here too.
-    #[tactic(auto, unfolding(crate::specs::Made::made))]
+    #[tactic(auto, unfolding(crate::specs::Made::made, crate::specs::Made::marks_fine))]
     pub fn is_made(&self) -> bool
         ensures value { result ≡ made self.now }
         ensures shaped { Shaped self.now }
@@ -285,7 +273,18 @@ impl Device {
             & self.slots_fine()
             & (!self.is_empty(RAM_KEY) | !self.is_marked(PLAIN_MARK))
             & (self.is_marked(RNG_MARK) | at_rest)
-            & self.marks_fine()
+            & basics::are_marks(&self.marks)
+    }
+
+    // What is checked before anything else that a command checks: the record, and the lengths of what was lent.
+    #[tactic(auto, unfolding(crate::specs::Account::answer_by))]
+    pub fn check(&self, lengths: bool) -> Result<(), Refusal>
+        ensures { answer_of result ≡ answer_by self.now lengths [] }
+    {
+        if !(self.is_made() & lengths) {
+            return Err(Refusal::GeneralError);
+        }
+        Ok(())
     }
 
     // ---- new records

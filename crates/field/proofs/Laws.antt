@@ -15,7 +15,7 @@ use Rattle.laws.specs.All.{all}
 use Rattle.laws.specs.Xor.{◌xor◌}
 use Rattle.laws.proofs.Tabulate.{get_d_tabulate}
 use Rattle.laws.proofs.Test.{agree}
-use Rattle.laws.proofs.Xor.{bit_cases, bit_times_xor, xor_below, xor_byte, xor_double, xor_high, xor_low, xor_medial, xor_zero, zero_xor, sums}
+use Rattle.laws.proofs.Xor.{bits_added, bit_cases, bit_times_xor, xor_below, xor_byte, xor_double, xor_high, xor_low, xor_medial, xor_zero, zero_xor, sums}
 use Rattle.field.specs.Field.{bit, reduce, xtime, mul, mul_bits, square, power, inverse}
 use Rattle.field.specs.Sbox.{from_bits, affine_bit, affine, inv_affine_bit, inv_affine, sbox, inv_sbox, table}
 
@@ -29,6 +29,8 @@ reduce_sum p x h = bit_cases (λ (p : ℕ). reduce p x ≡ x xor p * 0x1b) (sym 
 pub xtime_sum : (b : ℕ) → xtime b ≡ b * 2 % 256 xor bit b 7 * 0x1b
 unfolding xtime
 xtime_sum b = reduce_sum (bit b 7) (b * 2 % 256) (omega arith)
+
+pub ruleset doubling = (bits_added, xtime_sum)
 
 bit_xor : (a b : ℕ) → bit (a xor b) 7 ≡ bit a 7 xor bit b 7
 bit_xor a b = ap (λ (x : ℕ). x % 2) (xor_high 7 a b) ∙ xor_low 1 (a / 128) (b / 128)

@@ -1,7 +1,6 @@
 // GF(2^8) of FIPS 197 as the block cipher uses it: the two S-boxes as tables, and the doubling of a byte.
 //
-// The language has no static data: a constant table is laid on the stack where it is used. So a table is asked for once,
-// outside every loop, and lent down.
+// A table is lent from where it lies among the program's data, and nobody copies it.
 #![tactic(auto)]
 
 mod inv_sbox;
@@ -15,17 +14,17 @@ use inv_sbox::INV_SBOX;
 use sbox::SBOX;
 
 // The S-box, whole.
-pub fn sbox_table() -> [u8; 256]
-    ensures { result ≡ table sbox }
+pub fn sbox_table() -> &'static [u8; 256]
+    ensures { result.now ≡ table sbox }
 {
-    SBOX
+    &SBOX
 }
 
 // The inverse S-box, whole.
-pub fn inv_sbox_table() -> [u8; 256]
-    ensures { result ≡ table inv_sbox }
+pub fn inv_sbox_table() -> &'static [u8; 256]
+    ensures { result.now ≡ table inv_sbox }
 {
-    INV_SBOX
+    &INV_SBOX
 }
 
 // The entry of a lent table for a byte. A byte is never past its end.
@@ -36,6 +35,7 @@ pub fn look_up(table: &[u8; 256], byte: u8) -> u8
 }
 
 // The byte times x: a shift, and {1b} is added if a bit fell out. There is no branch: that bit, 0 or 1, is multiplied by {1b}.
+#[tactic(auto, using(crate::proofs::Laws::doubling))]
 pub fn double(byte: u8) -> u8
     ensures { result ≡ xtime byte }
 {

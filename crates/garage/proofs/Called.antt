@@ -2,7 +2,7 @@
 -- same of a number and of the number saturated.
 -- Assumes nothing.
 use mathlib.Core.Path.{◌≡◌, refl, sym, ap, ap₂, ◌∙◌, subst}
-use mathlib.Core.Bool.{Bool, true, false, not, cond, ◌&&◌}
+use mathlib.Core.Bool.{Bool, true, false, not, cond}
 use mathlib.Core.List.{List, [], ◌∷◌}
 use Prim.Native.Nat.{ℕ, ◌≤◌, ◌<◌}
 use native.Mathlib.Omega.{arith}
@@ -11,7 +11,6 @@ use lib.Dec.{leb}
 use lib.ListN.{length, get_or, replicate, get_or-eq_default}
 use lib.Seq.{paste}
 use Rattle.std.specs.Prelude.{Option, Some, None, Result, Ok, Err}
-use Rattle.std.specs.Result.{result_unwrap_or}
 use Rattle.laws.specs.All.{all}
 use Rattle.laws.specs.Lengths.{right_lengths}
 use Rattle.laws.specs.Ranges.{within}
@@ -20,28 +19,27 @@ use Rattle.laws.proofs.Lengths.{each_right}
 use Rattle.laws.proofs.Ranges.{above}
 use Rattle.laws.proofs.Test.{both}
 use Rattle.aes.specs.State.{byte}
-use Rattle.basics.specs.Answers.{no_error, number_of, answer_of}
+use Rattle.basics.specs.Answers.{no_error, number_of}
 use Rattle.basics.specs.declared.Refusal.{Refusal}
-use Rattle.basics.specs.Bytes.{block_at, uid_from, zero_uid}
+use Rattle.basics.specs.Bytes.{block_at, zero_uid}
 use Rattle.basics.specs.Marks.{is_mark}
 use Rattle.basics.specs.Wide.{saturated}
-use Rattle.basics.proofs.Bytes.{block_long, block_whole, uid_whole}
+use Rattle.basics.proofs.Bytes.{block_long, block_whole}
 use Rattle.basics.proofs.Faults.{no_fault, never_zero}
 use Rattle.basics.proofs.Wide.{saturates, fitting, wide_test, by_answer_lem}
 use Rattle.message.specs.FirstBlock.{max_counter}
 use Rattle.message.specs.Flags.{flag_count}
-use Rattle.message.specs.Messages.{empty_key, build}
-use Rattle.message.specs.Slots.{allowed}
-use Rattle.message.specs.Writer.{messages, full_form, proof, proof_form}
+use Rattle.message.specs.Messages.{empty_key, build, m1, m2, m3, m4, m5}
+use Rattle.message.specs.Slots.{allowed, counter_kept}
+use Rattle.message.specs.Writer.{message_lengths, messages, full_form, proof_lengths, proof, proof_form}
 use Rattle.message.proofs.Slots.{pair_slots, wide_pair}
-use Rattle.message.proofs.Written.{wrote_messages, wrote_proof}
-use Rattle.garage.specs.Book.{line_at, is_held, put_line}
-use Rattle.garage.specs.Calls.{write_lengths, write_answer, waiting_line, noted, writing, judge_lengths, judge_answer, is_proof, taken, verdict_yes, verdict_no, judging, judged}
+use Rattle.message.proofs.Written.{faultless, messages_written, proof_written}
+use Rattle.garage.specs.Book.{line_at, is_held}
+use Rattle.garage.specs.Calls.{write_lengths, write_answer, noted, writing, judge_lengths, judge_answer, is_proof, taken, verdict_yes, verdict_no, judging, judged}
 use Rattle.garage.specs.Open.{open_marks, is_open, unwritten, blank, open_lengths, open_answer, held_keys, opening}
-use Rattle.garage.specs.Outcome.{Outcome, outcome, refused, done, by_answer}
+use Rattle.garage.specs.Outcome.{Outcome, refused, done, by_answer}
 use Rattle.garage.specs.Rules.{next_counter, secret_of, pair_answer}
 use Rattle.garage.specs.declared.Book.{Book}
-use Rattle.garage.specs.declared.Line.{Line}
 use Rattle.garage.proofs.Opened.{Pair, can_write, open_book}
 
 -- ---- by the answer
@@ -83,6 +81,12 @@ module _ (uid keys held counters : List ℕ) where
       let four = no_fault (not (all 13 (λ i. leb (get_or counters i 0) max_counter))) 12 0 (λ z. omega arith) three.1 in
       record { long = not-false _ one.0; named = two.0; marks = not-false _ three.0; counts = not-false _ four.0 }
 
+  pub uid_long : no_error ≡ open_answer uid keys held counters → length uid ≡ 15
+  uid_long e = (long_of _ _ _ _ (openable (sym e)).long).of_uid
+
+  pub held_long : no_error ≡ open_answer uid keys held counters → length held ≡ 15
+  held_long e = (long_of _ _ _ _ (openable (sym e)).long).of_held
+
   pub counters_long : no_error ≡ open_answer uid keys held counters → length counters ≡ 13
   counters_long e = (long_of _ _ _ _ (openable (sym e)).long).of_counters
 
@@ -92,12 +96,10 @@ module _ (uid keys held counters : List ℕ) where
     open_refused after h e-book = ap₂ (λ (n : ℕ) (b : Book). refused n b []) e e-book ∙ sym (is_refused _ _ _ (λ z. h (e ∙ z)))
 
     pub open_done : (after : Book) → answer ≡ 0
-        → after ≡ unwritten (uid_from uid) (held_keys keys held) (uid_from held) (paste (replicate 15 0) 1 counters 13) open_marks
+        → after ≡ unwritten uid (held_keys keys held) held (paste (replicate 15 0) 1 counters 13) open_marks
         → done after 0 [] ≡ opening uid keys held counters
     unfolding opening
-    open_done after zero e-book =
-        let l = each_right (open_lengths (length uid) (length keys) (length held) (length counters)) (openable (sym e ∙ zero)).long in
-        rw (e-book, uid_whole uid (l 0), uid_whole held (l 2)) (sym (is_done _ _ _ (sym e ∙ zero)))
+    open_done after zero e-book = rw e-book (sym (is_done _ _ _ (sym e ∙ zero)))
 
 -- ---- writing
 secret_long : (b : Book) (authority : ℕ) → length (secret_of b authority) ≡ 16
@@ -137,21 +139,6 @@ module _ (b : Book) (key b1 b2 b3 : List ℕ) where
     pub write_refused : (answer ≡ 0 → ⊥) → refused answer b (b1 ∷ b2 ∷ b3 ∷ []) ≡ writing b target authority flags key b1 b2 b3
     unfolding writing
     write_refused h = ap (λ (n : ℕ). refused n b (b1 ∷ b2 ∷ b3 ∷ [])) e ∙ sym (is_refused _ _ _ (λ z. h (e ∙ z)))
-
-    -- the message that the writer wrote, and the line put
-    pub write_done : (secret a1 a2 a3 : List ℕ) (counter r : ℕ) (after : Book) → length b.uid ≡ 15 → answer ≡ 0 → counter ≡ next_counter b target
-        → secret ≡ secret_of b authority → messages r a1 a2 a3 ≡ full_form b.uid target authority secret counter flags key b1 b2 b3
-        → after ≡ put_line target (waiting_line authority counter key (line_at b target)) b
-        → done after 0 (a1 ∷ a2 ∷ a3 ∷ []) ≡ writing b target authority flags key b1 b2 b3
-    unfolding writing
-    write_done secret a1 a2 a3 counter r after uid_long zero same_counter same_secret e-wrote e-book =
-        let ok = writable b write_long flags target authority (sym e ∙ zero) in
-        let l = each_right (write_lengths (length key) (length b1) (length b2) (length b3)) ok.long in
-        let fits : counter ≤ max_counter = omega (arith, same_counter, ok.pair.counts) in
-        let secret-fits = ap length same_secret ∙ secret_long b authority in
-        let wrote = wrote_messages b.uid key target authority counter uid_long (l 0) fits ok.pair.allows secret b1 b2 b3 a1 a2 a3 flags r
-        secret-fits (l 1) (l 2) (l 3) ok.few e-wrote in
-        rw (wrote.0, wrote.1, wrote.2, e-book, same_counter, same_secret) (sym (is_done _ _ _ (sym e ∙ zero)))
 
   -- and what an answer of 0 tells of all that was left
   pub was_written : (target authority flags : ℕ) → (writing b target authority flags key b1 b2 b3).answer ≡ 0
@@ -199,35 +186,34 @@ module _ (b : Book) (key b1 b2 b3 : List ℕ) where
       (λ other. sym (write_refused _ _ _ answer (sym (wide_write_answer write_long target authority flags)) other)
       ∙ write_refused target authority flags answer refl other)
 
-  -- bytes made of wide numbers
+  -- what writing says of numbers as they came, by the bytes made of them
   pub as_it_came : (target authority flags t a f : ℕ) → t ≡ saturated 255 target → a ≡ saturated 255 authority → f ≡ saturated 255 flags
-      → writing b t a f key b1 b2 b3 ≡ writing b target authority flags key b1 b2 b3
-  as_it_came target authority flags t a f p q r = rw (p, q, r) (wide_writing target authority flags)
+      → writing b target authority flags key b1 b2 b3
+      ≡ (let built = build flag_count b.uid t a (secret_of b a) (next_counter b t) f key in
+      let answer = write_answer b write_long f t a in
+      by_answer answer (done (noted b t a key) 0 (built.m1 ∷ built.m2 ∷ built.m3 ∷ [])) (refused answer b (b1 ∷ b2 ∷ b3 ∷ [])))
+  unfolding writing
+  as_it_came target authority flags t a f p q r =
+      let same : writing b t a f key b1 b2 b3 ≡ writing b target authority flags key b1 b2 b3 = rw (p, q, r) (wide_writing target authority flags) in
+      sym same
 
-  -- what a reply leaves, from what was found of the numbers saturated
-  module _ (target authority flags t a f : ℕ) (same_t : t ≡ saturated 255 target) (same_a : a ≡ saturated 255 authority)
-      (same_f : f ≡ saturated 255 flags) (lengths : Bool) (long : lengths ≡ write_long) where
-    by_lengths : (answer : ℕ) → answer ≡ write_answer b lengths f t a → answer ≡ write_answer b write_long f t a
-    by_lengths answer e = e ∙ ap (λ (l : Bool). write_answer b l f t a) long
-
-    pub written_refused : (reply : Result Book Refusal) (refusal : Refusal) → reply ≡ Err refusal → number_of refusal ≡ write_answer b lengths f t a
-        → outcome (answer_of reply) (result_unwrap_or reply b) 0 (b1 ∷ b2 ∷ b3 ∷ []) ≡ writing b target authority flags key b1 b2 b3
-    written_refused reply refusal is e =
-        ap (λ (r : Result Book Refusal). outcome (answer_of r) (result_unwrap_or r b) 0 (b1 ∷ b2 ∷ b3 ∷ [])) is
-        ∙ write_refused t a f (number_of refusal) (by_lengths (number_of refusal) e) (never_zero refusal)
-        ∙ as_it_came target authority flags t a f same_t same_a same_f
-
-    pub written_done : no_error ≡ write_answer b lengths f t a → (counter : ℕ) → counter ≡ next_counter b t → (secret : List ℕ) → secret ≡ secret_of b a
-        → (r : ℕ) (a1 a2 a3 : List ℕ) → messages r a1 a2 a3 ≡ full_form b.uid t a secret counter f key b1 b2 b3 → (line : Line) → line ≡ line_at b t
-        → (kept : List ℕ) → kept ≡ block_at key 0 → (after : Book) → after ≡ put_line t (waiting_line a counter kept line) b → length b.uid ≡ 15
-        → done after 0 (a1 ∷ a2 ∷ a3 ∷ []) ≡ writing b target authority flags key b1 b2 b3
-    written_done e counter same_counter secret same_secret r a1 a2 a3 wrote line same_line kept same_key after put uid_long =
-        let answer = by_lengths no_error e in
-        let known = writable b write_long f t a (sym answer) in
-        let whole = each_right (write_lengths (length key) (length b1) (length b2) (length b3)) known.long 0 in
-        let book = put ∙ ap₂ (λ (l : Line) (k : List ℕ). put_line t (waiting_line a counter k l) b) same_line (same_key ∙ block_whole key whole) in
-        write_done t a f no_error answer secret a1 a2 a3 counter r after uid_long refl same_counter same_secret wrote book
-        ∙ as_it_came target authority flags t a f same_t same_a same_f
+  -- where no check finds fault the writer does not either
+  pub writes : (t a f counter : ℕ) (secret : List ℕ) → length b.uid ≡ 15 → no_error ≡ write_answer b write_long f t a → counter ≡ next_counter b t
+      → secret ≡ secret_of b a
+      → (full_form b.uid t a secret counter f key b1 b2 b3
+      ≡ messages 0 (m1 b.uid t a) (m2 flag_count secret counter f key) (m3 secret (m1 b.uid t a) (m2 flag_count secret counter f key)))
+      × (block_at key 0 ≡ key)
+  unfolding right_lengths
+  writes t a f counter secret hu zero same_counter same_secret =
+      let ok = writable b write_long f t a (sym zero) in
+      let l = each_right (write_lengths (length key) (length b1) (length b2) (length b3)) ok.long in
+      let fits : counter ≤ max_counter = omega (arith, same_counter, ok.pair.counts) in
+      let hs = ap length same_secret ∙ secret_long b a in
+      let lengths : right_lengths (message_lengths (length b.uid) (length secret) (length key) (length b1) (length b2) (length b3)) ≡ true
+      = rw (hu, hs, l 0, l 1, l 2, l 3) in (
+        sym (messages_written b.uid secret key b1 b2 b3 t a counter f 0 (faultless _ counter f t a lengths fits ok.few ok.pair.allows) _ _ _ refl refl refl refl),
+        block_whole key (l 0),
+      )
 
 -- ---- judging
 pub record Judgeable (b : Book) (lengths : Bool) (target : ℕ) : Type 0 where
@@ -303,8 +289,8 @@ module _ (b : Book) (fourth fifth : List ℕ) where
       judged_yes after so e-book =
           says_yes target 0 e after refl (subst (λ (s : ℕ). is_proof b s fourth fifth ≡ true) slot_is so) (e-book ∙ ap (taken b) slot_is)
 
--- ---- the comparison: where a message waits there is a slot; a line that nothing waits in, and the proof of what waits
-pub waits_in_slot : (b : Book) (target : ℕ) → length b.waits ≡ 15 → (line_at b target).waits ≡ 1 → target ≤ 14
+-- ---- the comparison: where a message waits there is a slot, and what an open book writes as its proof is never refused
+waits_in_slot : (b : Book) (target : ℕ) → length b.waits ≡ 15 → (line_at b target).waits ≡ 1 → target ≤ 14
 waits_in_slot b target long so = tests (leb target 14) refl
   where
     tests : (t : Bool) → leb target 14 ≡ t → target ≤ 14
@@ -313,28 +299,23 @@ waits_in_slot b target long so = tests (leb target 14) refl
         let none = get_or-eq_default b.waits 0 {n = target} (omega (arith, long, leb-false target 14 h)) in
         absurd (omega (arith, none, so))
 
-module _ (b : Book) (target : ℕ) (line : Line) (same_line : line ≡ line_at b target) (fourth fifth : List ℕ) where
-  pub none_waits : (line.waits ≡ 1 → ⊥) → false ≡ is_proof b target fourth fifth
-  unfolding is_proof
-  none_waits other = rw (ne_eqb _ 1 (λ so. other (ap (λ (l : Line). l.waits) same_line ∙ so))) refl
-
-  pub compares : (b4 b5 a4 a5 : List ℕ) (r : ℕ) → length b.uid ≡ 15 → is_open b ≡ true → target ≤ 14 → line.waits ≡ 1 → length b4 ≡ 32 → length b5 ≡ 16
-      → proof r a4 a5 ≡ proof_form b.uid target line.authority line.newcounter line.newkey b4 b5
-      → (same fourth a4 && same fifth a5) ≡ is_proof b target fourth fifth
-  unfolding is_proof
-  compares b4 b5 a4 a5 r hu opened fits so h4 h5 e =
-      let waits = sym (ap (λ (l : Line). l.waits) same_line) ∙ so in
-      let now = ((open_book b opened).lines target fits).waiting (eq-eqb _ 1 waits) in
-      let by = ap (λ (l : Line). l.authority) same_line in
-      let counter = ap (λ (l : Line). l.newcounter) same_line in
-      let key = ap (λ (l : Line). l.newkey) same_line in
-      let hk = ap length key ∙ block_long b.newkeys target in
-      let few : line.newcounter ≤ max_counter = omega (arith, counter, now.1, now.0.counts) in
-      let pair : allowed target line.authority ≡ true = ap (allowed target) by ∙ now.0.allows in
-      let wrote = wrote_proof b.uid line.newkey target line.authority line.newcounter hu hk few pair b4 b5 a4 a5 r h4 h5 e in
-      rw (eq-eqb _ 1 waits, wrote.0, wrote.1, sym by, sym counter, sym key) refl
+pub waiting_proof : (b : Book) (target authority counter : ℕ) (key b4 b5 : List ℕ) → is_open b ≡ true → length b.uid ≡ 15 → length b.waits ≡ 15
+    → (line_at b target).waits ≡ 1 → authority ≡ (line_at b target).authority → counter ≡ (line_at b target).newcounter
+    → key ≡ (line_at b target).newkey → length b4 ≡ 32 → length b5 ≡ 16
+    → proof_form b.uid target authority counter key b4 b5
+    ≡ proof 0 (m4 b.uid target authority (counter_kept target counter) key) (m5 key (m4 b.uid target authority (counter_kept target counter) key))
+unfolding right_lengths
+waiting_proof b target authority counter key b4 b5 opened hu long so by same same_key h4 h5 =
+    let now = ((open_book b opened).lines target (waits_in_slot b target long so)).waiting (eq-eqb _ 1 so) in
+    let hk : length key ≡ 16 = ap length same_key ∙ block_long b.newkeys target in
+    let few : counter ≤ max_counter = omega (arith, same, now.1, now.0.counts) in
+    let pair : allowed target authority ≡ true = ap (allowed target) by ∙ now.0.allows in
+    let lengths : right_lengths (proof_lengths (length b.uid) (length key) (length b4) (length b5)) ≡ true = rw (hu, hk, h4, h5) in
+    sym (proof_written b.uid key b4 b5 target authority counter 0 (faultless _ counter 0 target authority lengths few (omega arith) pair) _ _ refl refl refl)
 
 -- ---- what the proofs of opening and of judging stand on
-pub ruleset opening_laws = (counters_long, open_refused, open_done, never_zero)
+pub ruleset opening_laws = (uid_long, held_long, counters_long, open_refused, open_done, never_zero)
 
 pub ruleset judging_laws = (judgeable, judged_refused, judged_no, judged_yes)
+
+pub ruleset writing_laws = (as_it_came, writes, never_zero)

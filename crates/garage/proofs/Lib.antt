@@ -1,4 +1,4 @@
-pub mod AllOf
+pub mod AllRight
 pub mod Called
 pub mod Lines
 pub mod NewBook

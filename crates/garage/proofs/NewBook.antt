@@ -20,9 +20,8 @@ use Rattle.laws.proofs.Tabulate.{length_tabulate, get_d_tabulate, tabulate_same}
 use Rattle.laws.proofs.Test.{all_each, each_all}
 use Rattle.aes.specs.State.{byte}
 use Rattle.basics.specs.Answers.{no_error, general_error}
-use Rattle.basics.specs.Bytes.{block_at, uid_from, zero_uid}
+use Rattle.basics.specs.Bytes.{block_at, zero_uid}
 use Rattle.basics.specs.Marks.{off, is_on, is_mark}
-use Rattle.basics.proofs.Bytes.{uid_whole}
 use Rattle.basics.proofs.Faults.{first_among}
 use Rattle.basics.proofs.Wide.{by_answer_lem}
 use Rattle.modes.specs.Blocks.{zero_block}
@@ -30,7 +29,7 @@ use Rattle.message.specs.FirstBlock.{max_counter}
 use Rattle.message.specs.Slots.{counter_kept}
 use Rattle.message.proofs.Slots.{counter_1_13}
 use Rattle.garage.specs.Book.{line_at, Shaped}
-use Rattle.garage.specs.Open.{open_marks, is_open, InUse, unwritten, blank, open_lengths, open_checks, open_answer, held_keys, new_book, opening}
+use Rattle.garage.specs.Open.{is_open, InUse, blank, open_lengths, open_checks, open_answer, held_keys, new_book, opening}
 use Rattle.garage.specs.Outcome.{Outcome}
 use Rattle.garage.specs.Promised.{CanOpen, Opens}
 use Rattle.garage.specs.declared.Book.{Book}
@@ -173,12 +172,6 @@ only_twelve uid keys held counters other =
     ⊎_elim (λ zero. absurd (other zero)) (⊎_elim (λ so. so) absurd)
     (first_among (no_error ∷ general_error ∷ []) (open_checks uid keys held counters) (inl refl) refl)
 
-whole : (uid keys held counters : List ℕ) → Openable uid keys held counters
-    → new_book uid keys held counters ≡ unwritten (uid_from uid) (held_keys keys held) (uid_from held) (paste (replicate 15 0) 1 counters 13) open_marks
-whole uid keys held counters ok =
-    let l = each_right (open_lengths (length uid) (length keys) (length held) (length counters)) ok.long in
-    rw (uid_whole uid (l 0), uid_whole held (l 2)) refl
-
 none_waits : (slot : ℕ) → byte (replicate 15 off) slot ≡ off
 none_waits slot = tests (leb 15 slot) refl
   where
@@ -195,7 +188,7 @@ opens = record {
   exactly_when = λ uid keys held counters. (told uid keys held counters, enough_to_open uid keys held counters);
   opens = λ uid keys held counters e.
       let zero = sym (answered uid keys held counters) ∙ e in (
-        sym (open_done uid keys held counters _ refl _ zero (whole uid keys held counters (openable uid keys held counters zero))),
+        sym (open_done uid keys held counters _ refl _ zero refl),
         new_in_use uid keys held counters (openable uid keys held counters zero),
       );
   nothing_waits = λ uid keys held counters slot. none_waits slot;

@@ -6,14 +6,14 @@
 // came in. So target 0x11 is no target here.
 #![tactic(auto)]
 
-ghost use Rattle.std.specs.Prelude.{◌≡◌, cond, ◌∷◌, [], leb, length, get_or, replicate, true, IfOk};
+ghost use Rattle.std.specs.Prelude.{◌≡◌, cond, not, ◌∷◌, [], leb, length, get_or, replicate, true, IfOk};
 ghost use Rattle.std.specs.Result.{result_unwrap_or};
 ghost use Rattle.std.proofs.Math.Seq.{paste};
 ghost use Rattle.laws.specs.All.{all};
 ghost use Rattle.laws.specs.Lengths.{right_lengths};
 ghost use Rattle.aes.specs.State.{byte};
-ghost use Rattle.basics.specs.Answers.{answer_of};
-ghost use Rattle.basics.specs.Marks.{is_on, is_mark};
+ghost use Rattle.basics.specs.Answers.{general_error, answer_of, first_fault};
+ghost use Rattle.basics.specs.Marks.{is_on};
 ghost use Rattle.message.specs.FirstBlock.{max_counter};
 ghost use Rattle.garage.specs.Book.{line_at, is_held, put_line, Shaped};
 ghost use Rattle.garage.specs.Calls.{write_answer, writing, judge_answer, is_proof, taken, judging, judged};
@@ -63,17 +63,11 @@ pub struct Line {
 }
 
 // Whether each length is what stands beside it.
+#[tactic(auto, using(crate::proofs::AllRight::right_decided))]
 fn right_lengths(rows: &[(usize, usize)]) -> bool
     ensures { result ≡ right_lengths rows.now }
 {
     rows.iter().all(|row| row.0 == row.1)
-}
-
-// A number of a slot, and 0 past the last slot.
-fn number_at(numbers: &[u32; 15], slot: u8) -> u32
-    ensures { result ≡ get_or numbers.now slot 0 }
-{
-    numbers.get(slot as usize).copied().unwrap_or(0)
 }
 
 impl Book {
@@ -87,10 +81,10 @@ impl Book {
         Line {
             key: basics::block_at(&self.keys, slot),
             held: basics::byte_at(&self.held, n),
-            counter: number_at(&self.counters, slot),
+            counter: basics::item_at(&self.counters, n, 0),
             waits: basics::byte_at(&self.waits, n),
             authority: basics::byte_at(&self.authorities, n),
-            newcounter: number_at(&self.newcounters, slot),
+            newcounter: basics::item_at(&self.newcounters, n, 0),
             newkey: basics::block_at(&self.newkeys, slot),
         }
     }
@@ -146,7 +140,7 @@ impl Book {
             return Err(Refusal::KeyEmpty);
         }
         // A last counter that no next one fits after is past the largest too.
-        let next = number_at(&self.counters, target).saturating_add(1);
+        let next = basics::item_at(&self.counters, target as usize, 0).saturating_add(1);
         let counter = message::counter_kept(target, next);
         if counter > MAX_COUNTER {
             return Err(Refusal::KeyUpdateError);
@@ -165,10 +159,8 @@ impl Book {
             let none = basics::is_same(&line.newkey, &[0u8; 16]);
             return (line.authority == 0) & (line.newcounter == 0) & none;
         }
-        match self.counter_for(slot, line.authority) {
-            Ok(counter) => line.newcounter == counter,
-            Err(_) => false,
-        }
+        self.counter_for(slot, line.authority)
+            .is_ok_and(|counter| line.newcounter == counter)
     }
 
     #[tactic(auto, unfolding(crate::specs::Open::line_fine))]
@@ -183,15 +175,10 @@ impl Book {
         counted & (marked & ((line.held == ON) | none) & waiting)
     }
 
-    #[tactic(auto, using(laws::proofs::Test::all_none, laws::proofs::Test::all_more), unfolding(crate::specs::Open::lines_fine))]
     fn lines_fine(&self) -> bool
         ensures { result ≡ lines_fine self.now }
     {
-        let mut fine = true;
-        for slot in 0..SLOTS {
-            fine &= self.line_fine(slot);
-        }
-        fine
+        (0..SLOTS).all(|slot| self.line_fine(slot))
     }
 
     // Whether a book is one that opening and the calls can have left. That every book has the shape which theorems ask of it is
@@ -238,7 +225,17 @@ impl Book {
 
     // ---- what the calls check, in their order
 
-    #[tactic(auto, unfolding(crate::specs::Calls::write_answer, crate::specs::Rules::pair_answer))]
+    // That the book is open, and then the lengths of what was lent.
+    fn check(&self, lengths: bool) -> Result<(), Refusal>
+        ensures { answer_of result ≡ first_fault ((not (is_open self.now), general_error) ∷ (not lengths, general_error) ∷ []) }
+    {
+        if !(self.is_open() & lengths) {
+            return Err(Refusal::GeneralError);
+        }
+        Ok(())
+    }
+
+    #[tactic(auto, using(basics::proofs::Faults::two_refuse, basics::proofs::Faults::two_pass), unfolding(crate::specs::Calls::write_answer, crate::specs::Rules::pair_answer))]
     fn check_write(
         &self,
         lengths: bool,
@@ -249,29 +246,19 @@ impl Book {
         ensures answer { answer_of result ≡ write_answer self.now lengths flags target authority }
         ensures counter { IfOk result (λ counter. counter ≡ next_counter self.now target) }
     {
-        if !self.is_open() {
-            return Err(Refusal::GeneralError);
-        }
-        if !lengths {
-            return Err(Refusal::GeneralError);
-        }
+        self.check(lengths)?;
         if flags > message::ALL_FLAGS {
             return Err(Refusal::GeneralError);
         }
         self.counter_for(target, authority)
     }
 
-    #[tactic(auto, unfolding(crate::specs::Calls::judge_answer))]
+    #[tactic(auto, using(basics::proofs::Faults::two_refuse, basics::proofs::Faults::two_pass), unfolding(crate::specs::Calls::judge_answer))]
     fn check_judge(&self, lengths: bool, target: u32) -> Result<(), Refusal>
         ensures { answer_of result ≡ judge_answer self.now lengths target }
     {
-        if !self.is_open() {
-            return Err(Refusal::GeneralError);
-        }
-        if !lengths {
-            return Err(Refusal::GeneralError);
-        }
-        if !((1 <= target) & (target <= LAST_SLOT as u32)) {
+        self.check(lengths)?;
+        if !(1..=LAST_SLOT as u32).contains(&target) {
             return Err(Refusal::KeyInvalid);
         }
         Ok(())
@@ -280,6 +267,7 @@ impl Book {
     // ---- proofs
 
     // Whether these are the M4 and M5 of the message that waits for a target. All bytes are looked at.
+    #[tactic(auto, using(crate::proofs::Called::waiting_proof), unfolding(crate::specs::Calls::is_proof))]
     fn is_proof(&self, target: u8, fourth: &[u8], fifth: &[u8]) -> bool
         requires { is_open self.now ≡ true }
         ensures { result ≡ is_proof self.now target fourth.now fifth.now }
@@ -290,8 +278,7 @@ impl Book {
         }
         let mut m4 = [0u8; 32];
         let mut m5 = [0u8; 16];
-        // The book is open, so that this is not refused.
-        let _ = message::write_proof(
+        message::write_proof(
             &self.uid,
             target,
             line.authority,
@@ -299,7 +286,8 @@ impl Book {
             &line.newkey,
             &mut m4,
             &mut m5,
-        );
+        )
+        .unwrap();
         let same4 = basics::is_same(fourth, &m4);
         let same5 = basics::is_same(fifth, &m5);
         same4 & same5
@@ -310,11 +298,12 @@ impl Book {
         ensures { self.new ≡ taken self.old target }
     {
         let line = self.line_at(target);
+        // By itself: an array that goes from one record right into another gets no proof.
         let key = line.newkey;
         self.put_line(
             target,
             Line {
-                key: key,
+                key,
                 held: ON,
                 counter: line.newcounter,
                 waits: OFF,
@@ -328,12 +317,7 @@ impl Book {
 
 // ---- opening
 
-fn are_marks(held: &[u8]) -> bool
-    ensures { result ≡ all (length held.now) (λ i. is_mark (byte held.now i)) }
-{
-    held.iter().all(|mark| *mark <= ON)
-}
-
+#[tactic(auto, using(laws::proofs::AllOf::all_decided))]
 fn are_counters(counters: &[u32]) -> bool
     ensures { result ≡ all (length counters.now) (λ i. leb (get_or counters.now i 0) max_counter) }
 {
@@ -356,7 +340,7 @@ fn check_open(uid: &[u8], keys: &[u8], held: &[u8], counters: &[u32]) -> Result<
     if basics::is_same(uid, &[0u8; 15]) {
         return Err(Refusal::GeneralError);
     }
-    if !are_marks(held) {
+    if !basics::are_marks(held) {
         return Err(Refusal::GeneralError);
     }
     if !are_counters(counters) {
@@ -396,12 +380,10 @@ pub fn open(uid: &[u8], keys: &[u8], held: &[u8], counters: &[u32]) -> Result<Bo
     ensures { outcome (answer_of result) (result_unwrap_or result blank) 0 [] ≡ opening uid.now keys.now held.now counters.now }
 {
     check_open(uid, keys, held, counters)?;
-    // There are as many marks as a UID has bytes.
-    let marks = basics::uid_from(held);
     Ok(Book::unwritten(
-        basics::uid_from(uid),
+        uid.try_into().unwrap(),
         held_keys(keys, held),
-        marks,
+        held.try_into().unwrap(),
         counters_by_slot(counters),
         [ON, OFF, OFF, OFF],
     ))
@@ -411,7 +393,7 @@ pub fn open(uid: &[u8], keys: &[u8], held: &[u8], counters: &[u32]) -> Result<Bo
 
 // M1 to M3 for the bus of this book, with the next counter of the target. The message waits for its proof then, in place of one
 // that waited.
-#[tactic(auto, using(crate::proofs::Called::written_refused))]
+#[tactic(auto, using(crate::proofs::Called::writing_laws), unfolding(crate::specs::Outcome::by_answer))]
 pub fn write(
     mut book: Book,
     target: u32,
@@ -444,8 +426,7 @@ pub fn write(
         flags: few,
         key: newkey,
     };
-    // The checks above are the writer's too, so that it does not refuse.
-    let _ = update.write(m1, m2, m3);
+    update.write(m1, m2, m3).unwrap();
     let mut line = book.line_at(slot);
     line.waits = ON;
     line.authority = by;

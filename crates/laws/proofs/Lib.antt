@@ -1,3 +1,4 @@
+pub mod AllOf
 pub mod Among
 pub mod And
 pub mod Each

@@ -1,16 +1,11 @@
 -- A list with a part pasted in, and what then lies at each index.
 -- Assumes nothing.
 use Prim.Native.Nat.{ℕ, ◌+◌, ◌≤◌, ◌<◌}
-use mathlib.Core.Path.{◌≡◌, sym, ◌∙◌, ap, ap₂}
-use mathlib.Core.List.{List, ◌++◌, append-nil}
+use mathlib.Core.Path.{◌≡◌, sym, ◌∙◌, ap}
+use mathlib.Core.List.{List, ◌++◌}
 use native.Mathlib.Omega.{arith}
-use lib.ListN.{length, take, get_or, get_or-append, drop_of_length-le}
-use lib.Seq.{take_all, paste, take-paste, drop-paste, length-take-le, get_or-take, get_or-drop, get_or-append-add}
-
--- all of d pasted over
-pub pasted_over : (d s : List ℕ) (n : ℕ) → length d ≡ n → length s ≡ n → paste d 0 s n ≡ s
-pasted_over d s n hd hs =
-    ap₂ (λ (a b : List ℕ). a ++ b) (take_all n s (omega arith)) (drop_of_length-le d {i = 0 + n} (omega arith)) ∙ append-nil s
+use lib.ListN.{length, take, get_or, get_or-append}
+use lib.Seq.{paste, take-paste, drop-paste, length-take-le, get_or-take, get_or-drop, get_or-append-add}
 
 -- n elements of s pasted into d at `at`
 module _ (d s : List ℕ) (at n : ℕ) (room : at + n ≤ length d) (enough : n ≤ length s) where

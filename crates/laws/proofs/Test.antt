@@ -1,14 +1,12 @@
 -- A test that is computed at every number below n, and what it then shows of each; of a table, that it follows its rule. Two
--- tests at once, and a choice by a test. A loop that tests keeps "all below i pass" (`all_none`, `all_more`, `all_made`); the
--- same `all` is what the tables of `field` are computed with.
+-- tests at once, and a choice by a test. The tables of `field` are computed with `all`; `AllOf` has what an iterator tests by it.
 -- Assumes nothing.
 use mathlib.Core.Path.{◌≡◌, refl, sym, ap, ap₂, ◌∙◌}
 use mathlib.Core.Bool.{Bool, true, false, cond, ◌&&◌, ◌||◌, false≢true}
 use mathlib.Core.List.{List}
 use mathlib.Core.Logic.{◌⊎◌, inl, inr, ⊎_elim}
-use Prim.Native.Nat.{ℕ, zero, suc, ◌+◌, ◌≤◌, ◌<◌}
+use Prim.Native.Nat.{ℕ, zero, suc, ◌≤◌, ◌<◌}
 use native.Mathlib.Nat.{eq-or-lt_of_le}
-use native.Mathlib.Numerals.{add-one}
 use native.Mathlib.Omega.{arith}
 use borrow.Author.Tests.{eq-eqb, ne_eqb, eqb-true}
 use lib.Dec.{eqb}
@@ -34,18 +32,6 @@ pub each_all : (n : ℕ) (test : ℕ → Bool) → ((k : ℕ) → k < n → test
 unfolding all
 each_all zero test h = refl
 each_all (suc n) test h = ap₂ (λ (a b : Bool). a && b) (each_all n test (λ k l. h k (omega arith))) (h n (omega arith))
-
--- a loop that makes the test number by number: none, one more, and all of them
-pub all_none : (test : ℕ → Bool) → true ≡ all 0 test
-unfolding all
-all_none test = refl
-
-pub all_more : (test : ℕ → Bool) (i : ℕ) (found now : Bool) → found ≡ all i test → now ≡ test i → (found && now) ≡ all (i + 1) test
-unfolding all
-all_more test i found now e h = rw (add-one i, e, h)
-
-pub all_made : (test : ℕ → Bool) (i n : ℕ) (found : Bool) → i ≡ n → found ≡ all i test → found ≡ all n test
-all_made test i n found k e = e ∙ ap (λ (m : ℕ). all m test) k
 
 -- two functions that are computed to agree below n
 pub agree : (f g : ℕ → ℕ) (n : ℕ) → all n (λ k. eqb (f k) (g k)) ≡ true → (k : ℕ) → k < n → f k ≡ g k

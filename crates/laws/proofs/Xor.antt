@@ -36,6 +36,11 @@ assoc = bin_ind (λ (n : ℕ). (b c : ℕ) → bit_xor (bit_xor n b) c ≡ bit_x
         ∙ ap₂ (λ (x y : ℕ). x * 2 + y) (high ∙ ih (b / 2) (c / 2) ∙ sym high') (low ∙ bit ∙ sym low')
         ∙ div-add-mod' (bit_xor n (bit_xor b c)) 2
 
+-- what the language computes
+pub bits_added : (a b : ℕ) → bit_xor a b ≡ a xor b
+unfolding ◌xor◌
+bits_added a b = refl
+
 pub xor_associative : (a b c : ℕ) → a xor b xor c ≡ a xor (b xor c)
 unfolding ◌xor◌
 xor_associative = assoc

@@ -72,10 +72,11 @@ fn plain_after(target: u8, plain: u8) -> u8
 
 // What was opened comes into the target, as that keeps it.
 #[tactic(auto, unfolding(crate::specs::Rules::loaded))]
-fn store(device: &mut Device, target: u8, new: Contents)
+fn put_loaded(device: &mut Device, target: u8, new: Contents)
     ensures { device.new ≡ loaded device.old target new.counter new.flags new.key }
 {
     device.marks[PLAIN_MARK] = plain_after(target, device.marks[PLAIN_MARK]);
+    // By itself: an array that goes from one record right into another gets no proof.
     let key = new.key;
     let slot = Slot {
         key,
@@ -89,17 +90,12 @@ fn store(device: &mut Device, target: u8, new: Contents)
 // ---- LOAD_KEY
 
 // The checks before the message is opened.
-#[tactic(auto, unfolding(device::specs::Account::answer_by))]
+#[tactic(auto, using(device::proofs::Account::first_checks), unfolding(device::specs::Account::answer_by))]
 fn check_guard(device: &Device, lengths: bool, target: u8, authority: u8) -> Result<(), Refusal>
     ensures answer { answer_of result ≡ answer_by device.now lengths (pair_checks device.now target authority) }
     ensures ok { OnOk result (IsTrue lengths × (allowed target authority ≡ true)) }
 {
-    if !device.is_made() {
-        return Err(Refusal::GeneralError);
-    }
-    if !lengths {
-        return Err(Refusal::GeneralError);
-    }
+    device.check(lengths)?;
     if !message::is_allowed(target, authority) {
         return Err(Refusal::KeyInvalid);
     }
@@ -133,7 +129,7 @@ fn check_opened(device: &Device, target: u8, uid: [u8; 15], new: Contents) -> Re
 }
 
 // A key by its messages M1 to M3; M4 and M5 prove that it was taken.
-#[tactic(auto, using(crate::proofs::Loading::guard_refuses))]
+#[tactic(auto, using(crate::proofs::Loading::loading), unfolding(device::specs::Account::perform, device::specs::Outcome::by_answer, crate::specs::Load::load_key))]
 pub fn load_key(
     device: Device,
     m1: &[u8],
@@ -164,23 +160,18 @@ pub fn load_key(
         m5,
     )?;
     let mut after = device;
-    store(&mut after, target, new);
+    put_loaded(&mut after, target, new);
     Ok(after)
 }
 
 // ---- EXPORT_RAM_KEY
 
-#[tactic(auto, unfolding(device::specs::Account::answer_by))]
+#[tactic(auto, using(device::proofs::Account::first_checks), unfolding(device::specs::Account::answer_by))]
 fn check_export(device: &Device, lengths: bool) -> Result<(), Refusal>
     ensures answer { answer_of result ≡ answer_by device.now lengths (export_checks device.now) }
     ensures ok { OnOk result (IsTrue lengths) }
 {
-    if !device.is_made() {
-        return Err(Refusal::GeneralError);
-    }
-    if !lengths {
-        return Err(Refusal::GeneralError);
-    }
+    device.check(lengths)?;
     if device.is_empty(RAM_KEY) {
         return Err(Refusal::KeyEmpty);
     }
@@ -191,7 +182,7 @@ fn check_export(device: &Device, lengths: bool) -> Result<(), Refusal>
 }
 
 // Slot 14 as messages that this device takes again, under its SECRET_KEY.
-#[tactic(auto, using(crate::proofs::Exporting::export_refuses))]
+#[tactic(auto, using(crate::proofs::Exporting::exporting), unfolding(device::specs::Account::perform, device::specs::Outcome::by_answer, crate::specs::Export::export_ram_key))]
 pub fn export_ram_key(
     device: Device,
     m1: &mut [u8],

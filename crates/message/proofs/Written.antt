@@ -14,11 +14,12 @@ use Rattle.laws.proofs.Test.{where_equal, where_other}
 use Rattle.basics.specs.Answers.{no_error, general_error, key_invalid, written}
 use Rattle.basics.proofs.Faults.{no_fault, never_zero}
 use Rattle.message.specs.Flags.{flag_count}
+use Rattle.message.proofs.FirstBlock.{one_bit}
 use Rattle.message.proofs.Slots.{counter_below}
 use Rattle.message.specs.FirstBlock.{max_counter}
 use Rattle.message.specs.Messages.{m1, m2, m3, m4, m5}
 use Rattle.message.specs.Slots.{counter_kept, allowed}
-use Rattle.message.specs.Writer.{message_lengths, writer_answer, Messages, messages, full_form, proof_lengths, Proof, proof, proof_form}
+use Rattle.message.specs.Writer.{message_lengths, writer_answer, messages, full_form, proof_lengths, proof, proof_form}
 
 -- ---- an answer of 0
 pub no_faults : (lengths : Bool) (c f t a : ℕ) → writer_answer lengths c f t a ≡ 0
@@ -117,25 +118,4 @@ module _ (uid key b4 b5 : List ℕ) (t a c answer : ℕ)
 -- ---- the two ways out of each, for the functions that write
 pub ruleset messages_left = (never_zero, messages_refused, messages_written)
 
-pub ruleset proof_left = (never_zero, counter_below, proof_refused, proof_written)
-
--- ---- both succeed where the lengths, the numbers and the pair are right
-module _ (uid key : List ℕ) (t a c : ℕ) (hu : length uid ≡ 15) (hk : length key ≡ 16) (counter : c ≤ max_counter) (pair : allowed t a ≡ true) where
-  pub wrote_messages : (auth_key b1 b2 b3 a1 a2 a3 : List ℕ) (f r : ℕ) → length auth_key ≡ 16 → length b1 ≡ 16 → length b2 ≡ 32 → length b3 ≡ 16 → f < 32
-      → messages r a1 a2 a3 ≡ full_form uid t a auth_key c f key b1 b2 b3
-      → (a1 ≡ m1 uid t a) × (a2 ≡ m2 flag_count auth_key c f key) × (a3 ≡ m3 auth_key (m1 uid t a) (m2 flag_count auth_key c f key))
-  unfolding right_lengths
-  wrote_messages auth_key b1 b2 b3 a1 a2 a3 f r hs h1 h2 h3 flags e =
-      let lengths : right_lengths (message_lengths (length uid) (length auth_key) (length key) (length b1) (length b2) (length b3)) ≡ true = rw (hu, hs, hk, h1, h2, h3) in
-      let zero = faultless _ c f t a lengths counter flags pair in
-      let done = e ∙ sym (messages_written uid auth_key key b1 b2 b3 t a c f 0 zero _ _ _ refl refl refl refl) in
-      (ap (λ (x : Messages). x.m1) done, ap (λ (x : Messages). x.m2) done, ap (λ (x : Messages). x.m3) done)
-
-  pub wrote_proof : (b4 b5 a4 a5 : List ℕ) (r : ℕ) → length b4 ≡ 32 → length b5 ≡ 16 → proof r a4 a5 ≡ proof_form uid t a c key b4 b5
-      → (a4 ≡ m4 uid t a (counter_kept t c) key) × (a5 ≡ m5 key (m4 uid t a (counter_kept t c) key))
-  unfolding right_lengths
-  wrote_proof b4 b5 a4 a5 r h4 h5 e =
-      let lengths : right_lengths (proof_lengths (length uid) (length key) (length b4) (length b5)) ≡ true = rw (hu, hk, h4, h5) in
-      let zero = faultless _ c 0 t a lengths counter (omega arith) pair in
-      let done = e ∙ sym (proof_written uid key b4 b5 t a c 0 zero _ _ refl refl refl) in
-      (ap (λ (x : Proof). x.m4) done, ap (λ (x : Proof). x.m5) done)
+pub ruleset proof_left = (never_zero, counter_below, one_bit, proof_refused, proof_written)

@@ -5,12 +5,12 @@
 // refused, and a refusal writes nothing. `authkey` is the authority's key throughout, and `key` the new one.
 #![tactic(auto)]
 
-ghost use Rattle.std.specs.Prelude.{◌≡◌, ◌++◌, ◌∷◌, [], ◌+◌, ◌≤◌, ◌<◌, eqb, length, IsTrue, OnOk};
+ghost use Rattle.std.specs.Prelude.{◌≡◌, ◌++◌, ◌∷◌, [], ◌+◌, ◌≤◌, ◌<◌, ◌^◌, eqb, length, IsTrue, IfOk, OnOk};
 ghost use Rattle.laws.specs.Lengths.{right_lengths};
 ghost use Rattle.aes.specs.Cipher.{cipher};
 ghost use Rattle.basics.specs.Answers.{answer_of};
 ghost use Rattle.message.specs.Flags.{flag_count};
-ghost use Rattle.message.specs.FirstBlock.{first_block, counter_of, flags_of, filler_of, max_counter, proof_block};
+ghost use Rattle.message.specs.FirstBlock.{first_block, counter_of, flags_of, filler_of, max_counter};
 ghost use Rattle.message.specs.Messages.{enc_key, slot_byte, target_in, authority_in, m2, m3, m5};
 ghost use Rattle.message.specs.Opening.{open_lengths, opened, opened_as, opened_text};
 ghost use Rattle.message.specs.Slots.{kind_of, has_role, flags_kept, counter_kept, allowed};
@@ -22,7 +22,7 @@ use modes::Constant;
 // The largest counter, of 28 bits.
 pub const MAX_COUNTER: u32 = 0xfffffff;
 
-// The flags in a number of flags, and all of them.
+// The flags in a number of flags, and all of them. It stays a number, since a sender may hand in any, and one above 31 is refused.
 pub const WRITE: u8 = 16;
 
 pub const BOOT: u8 = 8;
@@ -129,16 +129,6 @@ pub fn is_allowed(target: u8, authority: u8) -> bool
 
 // ---- bytes
 
-// A text of N bytes as an array.
-fn array<const N: usize>(text: &[u8]) -> [u8; N]
-    requires { length text.now ≡ N }
-    ensures { result ≡ text.now }
-{
-    let mut bytes = [0u8; N];
-    bytes.copy_from_slice(text);
-    bytes
-}
-
 // One text after another, N bytes in all.
 fn join<const N: usize>(front: &[u8], back: &[u8]) -> [u8; N]
     requires { length front.now + length back.now ≡ N }
@@ -153,30 +143,38 @@ fn join<const N: usize>(front: &[u8], back: &[u8]) -> [u8; N]
 
 // ---- the first block of M2
 
-// Counter and flags in 33 bits from the left: the last four bits of the counter share byte 3 with four flags, and the fifth flag
-// is the highest bit of byte 4.
-fn first_block(counter: u32, flags: u8) -> [u8; 16]
-    requires { (counter ≤ max_counter) × (flags < 32) }
-    ensures { result ≡ first_block flag_count counter flags }
-{
-    let mut block = [0u8; 16];
-    block[..4].copy_from_slice(&(counter << 4).to_be_bytes());
-    block[3] |= flags >> 1;
-    block[4] = flags << 7;
-    block
+// What the block carries: a counter of 28 bits, and five flags.
+#[derive(Clone, Copy)]
+struct Head {
+    counter: u32,
+    flags: u8,
+    ghost counter_fits: { counter ≤ max_counter },
+    ghost flags_fit: { flags < 2 ^ flag_count },
 }
 
-fn counter_of(block: [u8; 16]) -> u32
-    ensures value { result ≡ counter_of block }
-    ensures upper_bound { result ≤ max_counter }
-{
-    u32::from_be_bytes([block[0], block[1], block[2], block[3]]) >> 4
-}
+impl Head {
+    // In 33 bits from the left: the last four bits of the counter share byte 3 with four flags, and the fifth flag is the highest
+    // bit of byte 4.
+    #[tactic(auto, using(crate::proofs::FiveFlags::packed))]
+    fn block(self) -> [u8; 16]
+        ensures { result ≡ first_block flag_count self.counter self.flags }
+    {
+        let mut block = [0u8; 16];
+        block[..4].copy_from_slice(&(self.counter << 4).to_be_bytes());
+        block[3] |= self.flags >> 1;
+        block[4] = self.flags << 7;
+        block
+    }
 
-fn flags_of(block: [u8; 16]) -> u8
-    ensures { result ≡ flags_of flag_count block }
-{
-    (block[3] & 15) << 1 | block[4] >> 7
+    fn read(block: [u8; 16]) -> Self
+        ensures counter { result.counter ≡ counter_of block }
+        ensures flags { result.flags ≡ flags_of flag_count block }
+    {
+        Self {
+            counter: u32::from_be_bytes([block[0], block[1], block[2], block[3]]) >> 4,
+            flags: (block[3] & 15) << 1 | block[4] >> 7,
+        }
+    }
 }
 
 // The 95 bits after the flags.
@@ -216,12 +214,11 @@ fn build_m1(uid: [u8; 15], slots: u8) -> [u8; 16]
     join(&uid, &[slots])
 }
 
-fn build_m2(authkey: [u8; 16], counter: u32, flags: u8, key: [u8; 16]) -> [u8; 32]
-    requires { (counter ≤ max_counter) × (flags < 32) }
-    ensures { result ≡ m2 flag_count authkey counter flags key }
+fn build_m2(authkey: [u8; 16], head: Head, key: [u8; 16]) -> [u8; 32]
+    ensures { result ≡ m2 flag_count authkey head.counter head.flags key }
 {
     let k1 = modes::derive(authkey, Constant::KeyUpdateEnc);
-    let clear: [u8; 32] = join(&first_block(counter, flags), &key);
+    let clear: [u8; 32] = join(&head.block(), &key);
     let mut text = [0u8; 32];
     modes::cbc_encrypt(&k1, &[0u8; 16], &clear, &mut text).unwrap();
     text
@@ -234,14 +231,11 @@ fn build_m3(authkey: [u8; 16], first: [u8; 16], second: [u8; 32]) -> [u8; 16]
     modes::text_mac(k2, first, &second)
 }
 
-#[tactic(auto, using(crate::proofs::FirstBlock::one_bit))]
-fn build_m4(uid: [u8; 15], slots: u8, counter: u32, key: [u8; 16]) -> [u8; 32]
-    requires { counter ≤ max_counter }
-    ensures { result ≡ (uid ++ (slots ∷ [])) ++ cipher (enc_key key) (proof_block counter) }
+fn build_m4(uid: [u8; 15], slots: u8, head: Head, key: [u8; 16]) -> [u8; 32]
+    ensures { result ≡ (uid ++ (slots ∷ [])) ++ cipher (enc_key key) (first_block flag_count head.counter head.flags) }
 {
     let k3 = modes::derive(key, Constant::KeyUpdateEnc);
-    // A 1 bit after the counter, and zeros after that: so stands the first flag alone.
-    let proof = aes::encrypt(k3, first_block(counter, WRITE));
+    let proof = aes::encrypt(k3, head.block());
     join(&build_m1(uid, slots), &proof)
 }
 
@@ -250,7 +244,7 @@ fn build_m5(key: [u8; 16], fourth: [u8; 32]) -> [u8; 16]
 {
     let k4 = modes::derive(key, Constant::KeyUpdateMac);
     let (head, proof) = fourth.split_at(16);
-    modes::text_mac(k4, array(head), proof)
+    modes::text_mac(k4, head.try_into().unwrap(), proof)
 }
 
 // ---- the writer
@@ -277,9 +271,10 @@ fn check_writer(
     flags: u8,
     target: u8,
     authority: u8,
-) -> Result<(), Refusal>
+) -> Result<Head, Refusal>
     ensures answer { answer_of result ≡ writer_answer lengths counter flags target authority }
-    ensures ok { OnOk result (IsTrue lengths × (counter ≤ max_counter) × (flags < 32) × (target < 16) × (authority < 16)) }
+    ensures head { IfOk result (λ head. (head.counter ≡ counter) × (head.flags ≡ flags)) }
+    ensures ok { OnOk result (IsTrue lengths × (target < 16) × (authority < 16)) }
 {
     if !lengths {
         return Err(Refusal::GeneralError);
@@ -293,7 +288,7 @@ fn check_writer(
     if !is_allowed(target, authority) {
         return Err(Refusal::KeyInvalid);
     }
-    Ok(())
+    Ok(Head { counter, flags })
 }
 
 // What M1 to M3 are to carry, to one device or with a UID of zeros to all: a key for the slot `target` with its counter and flags,
@@ -325,16 +320,18 @@ impl Update<'_> {
             m2.len(),
             m3.len(),
         );
-        check_writer(
+        let head = check_writer(
             lengths,
             self.counter,
             self.flags,
             self.target,
             self.authority,
         )?;
-        let authkey = array(self.authkey);
-        let first = build_m1(array(self.uid), slot_byte(self.target, self.authority));
-        let second = build_m2(authkey, self.counter, self.flags, array(self.key));
+        let uid = self.uid.try_into().unwrap();
+        let authkey = self.authkey.try_into().unwrap();
+        let key = self.key.try_into().unwrap();
+        let first = build_m1(uid, slot_byte(self.target, self.authority));
+        let second = build_m2(authkey, head, key);
         let third = build_m3(authkey, first, second);
         m1.copy_from_slice(&first);
         m2.copy_from_slice(&second);
@@ -412,10 +409,15 @@ pub fn write_proof(
     ensures { proof (answer_of result) m4.new m5.new ≡ proof_form uid.now target authority counter key.now m4.old m5.old }
 {
     let lengths = proof_lengths(uid.len(), key.len(), m4.len(), m5.len());
-    check_writer(lengths, counter, 0, target, authority)?;
-    let key = array(key);
-    let stored = counter_kept(target, counter);
-    let fourth = build_m4(array(uid), slot_byte(target, authority), stored, key);
+    let head = check_writer(lengths, counter, 0, target, authority)?;
+    let uid = uid.try_into().unwrap();
+    let key = key.try_into().unwrap();
+    // A 1 bit after the counter, and zeros after that: so stands the first flag alone.
+    let stored = Head {
+        counter: counter_kept(target, head.counter),
+        flags: WRITE,
+    };
+    let fourth = build_m4(uid, slot_byte(target, authority), stored, key);
     let fifth = build_m5(key, fourth);
     m4.copy_from_slice(&fourth);
     m5.copy_from_slice(&fifth);
@@ -426,7 +428,7 @@ pub fn write_proof(
 
 // What M1 to M3 hold where M3 is the MAC of M1 and M2: the counter, the flags, whether the filler after them is all zeros, and
 // the new key.
-#[derive(Clone, Copy)]
+#[derive(Clone, Copy, Default)]
 pub struct Contents {
     pub counter: u32,
     pub flags: u8,
@@ -448,12 +450,13 @@ fn read_clear(clear: [u8; 32]) -> Contents
     ensures counter_le_max_counter { result.counter ≤ max_counter }
 {
     let (front, back) = clear.split_at(16);
-    let first = array(front);
+    let first = front.try_into().unwrap();
+    let head = Head::read(first);
     Contents {
-        counter: counter_of(first),
-        flags: flags_of(first),
+        counter: head.counter,
+        flags: head.flags,
         zerofill: filler_is_zero(first),
-        key: array(back),
+        key: back.try_into().unwrap(),
     }
 }
 
@@ -467,8 +470,8 @@ pub fn open(authkey: &[u8], m1: &[u8], m2: &[u8], m3: &[u8]) -> Option<Contents>
     if !open_lengths(authkey.len(), m1.len(), m2.len(), m3.len()) {
         return None;
     }
-    let authkey = array(authkey);
-    let expected = build_m3(authkey, array(m1), array(m2));
+    let authkey = authkey.try_into().unwrap();
+    let expected = build_m3(authkey, m1.try_into().unwrap(), m2.try_into().unwrap());
     if !basics::is_same(m3, &expected) {
         return None;
     }

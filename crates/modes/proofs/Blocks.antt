@@ -1,12 +1,23 @@
 -- The blocks of a text.
 -- Assumes nothing.
-use mathlib.Core.Path.{◌≡◌, sym, ap, ap₂, ◌∙◌}
+use mathlib.Core.Path.{◌≡◌, refl, sym, ap, ap₂, ◌∙◌}
 use mathlib.Core.List.{List, [], ◌∷◌, ◌++◌}
 use Prim.Native.Nat.{ℕ, zero, suc, ◌*◌, ◌/◌, ◌≤◌, ◌<◌}
 use native.Mathlib.Omega.{arith}
 use lib.ListN.{length, take, drop, length-append, length-drop}
 use lib.Seq.{take_all, take-append-le, drop-append-le}
+use Rattle.std.specs.Simd.{first_chunks}
 use Rattle.modes.specs.Blocks.{parse, blocks}
+
+-- as the library cuts it
+chunks_parsed : (n : ℕ) (text : List ℕ) → first_chunks 16 n text ≡ parse n text
+unfolding parse
+chunks_parsed zero text = refl
+chunks_parsed (suc n) text = ap (λ (xs : List (List ℕ)). take 16 text ∷ xs) (chunks_parsed n (drop 16 text))
+
+pub chunks : (text : List ℕ) → first_chunks 16 (length text / 16) text ≡ blocks text
+unfolding blocks
+chunks text = chunks_parsed (length text / 16) text
 
 pub blocks_more : (text : List ℕ) → 16 ≤ length text → blocks text ≡ take 16 text ∷ blocks (drop 16 text)
 unfolding blocks parse

@@ -2,14 +2,14 @@
 -- Assumes nothing.
 use mathlib.Core.Path.{◌≡◌, sym, ap, ap₂, ◌∙◌, subst}
 use mathlib.Core.List.{List, ◌∷◌, ◌++◌}
-use Prim.Native.Nat.{ℕ, suc, ◌+◌, ◌-◌, ◌*◌, ◌/◌, ◌%◌, ◌^◌, ◌≤◌, ◌<◌, max}
+use Prim.Native.Nat.{ℕ, suc, ◌+◌, ◌-◌, ◌*◌, ◌/◌, ◌%◌, ◌^◌, ◌<◌, max}
 use native.Mathlib.Nat.{mod-eq_of_lt, pow-suc}
 use native.Mathlib.Omega.{arith}
 use lib.Bits.{bit_or, or_step, or_zero_r}
 use lib.ListN.{length, take, drop, set, replicate}
 use Rattle.std.proofs.lemmas.List.{drop-replicate}
 use lib.Pow.{shl_lt, shr_lt, shr-shr}
-use Rattle.laws.proofs.Zeros.{Filled, put_next}
+use Rattle.laws.proofs.Zeros.{put_next}
 use Rattle.aes.specs.State.{byte}
 use Rattle.modes.specs.Cmac.{cut, padded}
 
@@ -34,15 +34,13 @@ cut_by_shifts t b h hb =
     ∙ mod-eq_of_lt (cut_below t s b (omega arith) hb)
     ∙ ap (λ (n : ℕ). (b / 2 ^ n * 2 + 1) * 2 ^ s) (sym more)
 
--- ---- the block: the whole bytes, and then the cut one
-pub pad_steps : (r : ℕ) (x p : List ℕ) (i v : ℕ) → r < 128 → length x ≡ 16 → i ≡ r / 8 → Filled 16 x i p
-    → v ≡ cut (r % 8) (byte x (r / 8)) → set p (r / 8) v ≡ padded r x
+-- ---- the block: the whole bytes, copied into a block of zeros, and then the cut one
+pub padded_block : (r : ℕ) (x : List ℕ) → r < 128 → length x ≡ 16
+    → padded r x ≡ set (take (r / 8) x ++ drop (r / 8) (replicate 16 0)) (r / 8) (cut (r % 8) (byte x (r / 8)))
 unfolding padded
-pad_steps r x p i v h long whole inv ev =
-    let last : 16 - suc (r / 8) ≡ 15 - r / 8 = omega arith in
-    put_next x p 16 (r / 8) v (omega arith) (omega arith) (subst (λ (k : ℕ). Filled 16 x k p) whole inv)
-    ∙ ap₂ (λ (b k : ℕ). take (r / 8) x ++ (b ∷ replicate k 0)) ev last
-
--- the whole bytes, copied into a block of zeros
-pub whole_bytes : (x copy : List ℕ) (n : ℕ) → n ≤ 16 → copy ≡ take n x → Filled 16 x n (copy ++ drop n (replicate 16 0))
-whole_bytes x copy n h e = ap₂ (λ (a b : List ℕ). a ++ b) e (drop-replicate n 16 0)
+padded_block r x h long =
+    let n : ℕ = r / 8 in
+    let v : ℕ = cut (r % 8) (byte x n) in
+    let last : 16 - suc n ≡ 15 - n = omega arith in
+    sym (put_next x _ 16 n v (omega arith) (omega arith) (ap (λ (zeros : List ℕ). take n x ++ zeros) (drop-replicate n 16 0))
+    ∙ ap (λ (k : ℕ). take n x ++ (v ∷ replicate k 0)) last)

@@ -4,6 +4,9 @@ use mathlib.Core.Path.{◌≡◌}
 use mathlib.Core.List.{List}
 use Prim.Native.Nat.{ℕ, ◌+◌, ◌*◌, ◌/◌, ◌%◌, ◌<◌, ◌≤◌}
 use native.Mathlib.Omega.{arith}
+use borrow.Author.Rules.{elem_Fits}
+use mir.Syntax.{w8}
+use mir.Val.{Fits}
 use lib.Bits.{bit_or, or_shifted}
 use Rattle.laws.proofs.Test.{where_equal, where_other}
 use Rattle.field.specs.Field.{bit}
@@ -24,8 +27,11 @@ plain_double x h =
     let zero : bit (byte x 0) 7 ≡ 0 = omega arith in
     where_equal (bit (byte x 0) 7) 0 (shift_left x) (shift_left x ⊕ r128) zero
 
-pub reduced_double : (x : List ℕ) → 128 ≤ byte x 0 → byte x 0 < 256 → shift_left x ⊕ r128 ≡ double x
+pub reduced_double : (x : List ℕ) → 128 ≤ byte x 0 → Fits w8 (byte x 0) → shift_left x ⊕ r128 ≡ double x
 unfolding double
 reduced_double x h small =
-    let one : bit (byte x 0) 7 ≡ 1 = omega arith in
-    where_other (bit (byte x 0) 7) 0 (shift_left x) (shift_left x ⊕ r128) (λ e. omega arith)
+    let one : bit (byte x 0) 7 ≡ 1 = omega (arith, small.fits) in
+    where_other (bit (byte x 0) 7) 0 (shift_left x) (shift_left x ⊕ r128) (λ e. omega (arith, small.fits))
+
+-- the two cases, and that an element of an array of bytes is one
+pub ruleset doubled = (plain_double, reduced_double, elem_Fits)

@@ -73,27 +73,29 @@ module _ (ciph : List ℕ → List ℕ) (first text : List ℕ) (long : length f
   all_long = length-append first text ∙ ap (λ (n : ℕ). n + length text) long
 
   -- where there is no text the first block is the last
-  pub first_alone : (t : List ℕ) → length text ≡ 0 → t ≡ chained ciph zero_block (last_block ciph 128 first)
-      → t ≡ text_mac ciph (first ++ text)
+  pub first_alone : length text ≡ 0 → text_mac ciph (first ++ text) ≡ chained ciph zero_block (last_block ciph 128 first)
   unfolding text_mac
-  first_alone t none et =
+  first_alone none =
       let whole : List ℕ = whole_blocks (first ++ text) in
       let one : 128 ≡ bits - 8 * 0 = omega (arith, all_long, none) in
-      mac_steps ciph bits whole 0 zero_block first t (whole_long (first ++ text)) (omega (arith, all_long, none))
+      sym (mac_steps ciph bits whole 0 zero_block first _ (whole_long (first ++ text)) (omega (arith, all_long, none))
       (sym (ap (foldl (chained ciph) zero_block) (blocks_none (take 0 whole) (omega arith))))
       (sym (take-append-le 16 (first ++ text) zeros (omega (arith, all_long)) ∙ take_at first text 16 long))
-      (et ∙ ap (λ (k : ℕ). chained ciph zero_block (last_block ciph k first)) one)
+      (ap (λ (k : ℕ). chained ciph zero_block (last_block ciph k first)) one))
 
   -- where there is one the last block is its last, filled up
-  module _ (at : ℕ) (some : 0 < length text) (here : at ≡ (length text - 1) / 16 * 16) where
+  module _ (some : 0 < length text) where
+    abbrev at : ℕ
+    at = (length text - 1) / 16 * 16
+
     front : first ++ take at text ≡ take (16 + at) (whole_blocks (first ++ text))
     front =
-        sym (take-append-le (16 + at) (first ++ text) zeros (omega (arith, all_long, some, here))
+        sym (take-append-le (16 + at) (first ++ text) zeros (omega (arith, all_long, some))
         ∙ ap (λ (n : ℕ). take (n + at) (first ++ text)) (sym long) ∙ take-append-add first text at)
 
     back : drop at text ++ zeros ≡ drop (16 + at) (whole_blocks (first ++ text))
     back =
-        sym (drop-append-le (16 + at) (first ++ text) zeros (omega (arith, all_long, some, here))
+        sym (drop-append-le (16 + at) (first ++ text) zeros (omega (arith, all_long, some))
         ∙ ap (λ (l : List ℕ). l ++ zeros) (ap (λ (n : ℕ). drop (n + at) (first ++ text)) (sym long) ∙ drop-append-add first text at))
 
     -- the first block, those before the last, and the last
@@ -106,20 +108,25 @@ module _ (ciph : List ℕ → List ℕ) (first text : List ℕ) (long : length f
     rest = length-drop at text
 
     missing : 16 - length (drop at text) ≡ 16 * block_count (8 * length (first ++ text)) - length (first ++ text)
-    missing = omega (arith, rest, all_long, some, here, count)
+    missing = omega (arith, rest, all_long, some, count)
 
     last : block_at (drop at text) 0 ≡ take 16 (drop (16 + at) (whole_blocks (first ++ text)))
     last =
-        filled_block (drop at text) (omega (arith, rest, some, here))
+        filled_block (drop at text) (omega (arith, rest, some))
         ∙ ap (λ (n : ℕ). drop at text ++ replicate n 0) missing ∙ back
-        ∙ sym (take_all 16 (drop (16 + at) (whole_blocks (first ++ text))) (omega (arith, whole_long (first ++ text), length-drop (16 + at) (whole_blocks (first ++ text)), here, count)))
+        ∙ sym (take_all 16 (drop (16 + at) (whole_blocks (first ++ text))) (omega (arith, whole_long (first ++ text), length-drop (16 + at) (whole_blocks (first ++ text)), count)))
 
-    pub then_text : (c x t : List ℕ) → c ≡ foldl (chained ciph) (foldl (chained ciph) zero_block (blocks first)) (blocks (take at text))
-        → x ≡ block_at (drop at text) 0 → t ≡ chained ciph c (last_block ciph (8 * (length text - at)) x) → t ≡ text_mac ciph (first ++ text)
+    pub then_text : text_mac ciph (first ++ text)
+        ≡ chained ciph (foldl (chained ciph) (foldl (chained ciph) zero_block (blocks first)) (blocks (take at text)))
+        (last_block ciph (8 * (length text - at)) (block_at (drop at text) 0))
     unfolding text_mac
-    then_text c x t ec ex et =
-        let bits_left : 8 * (length text - at) ≡ bits - 8 * (16 + at) = omega (arith, all_long, some, here) in
-        mac_steps ciph bits (whole_blocks (first ++ text)) (16 + at) c x t (whole_long (first ++ text)) (omega (arith, here, count))
-        (ec ∙ sym (foldl-append (chained ciph) zero_block (blocks first) (blocks (take at text)))
+    then_text =
+        let before : List ℕ = foldl (chained ciph) (foldl (chained ciph) zero_block (blocks first)) (blocks (take at text)) in
+        let bits_left : 8 * (length text - at) ≡ bits - 8 * (16 + at) = omega (arith, all_long, some) in
+        sym (mac_steps ciph bits (whole_blocks (first ++ text)) (16 + at) before _ _ (whole_long (first ++ text)) (omega (arith, count))
+        (sym (foldl-append (chained ciph) zero_block (blocks first) (blocks (take at text)))
         ∙ ap (foldl (chained ciph) zero_block) (sym (blocks_append 1 first (take at text) long) ∙ ap blocks front))
-        (ex ∙ last) (et ∙ ap (λ (k : ℕ). chained ciph c (last_block ciph k x)) bits_left)
+        last (ap (λ (k : ℕ). chained ciph before (last_block ciph k (block_at (drop at text) 0))) bits_left))
+
+-- the two cases, and that the rest of a text is the part of it that the code lends
+pub ruleset text_macs = (first_alone, then_text, take_all, length-drop)

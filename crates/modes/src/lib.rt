@@ -2,15 +2,14 @@
 // key derivation of SHE.
 //
 // A routine on lent buffers looks at all lengths first, and writes nothing before it is sure to succeed. Key schedules are
-// made once a call. Blocks are arrays by value between a `load` and a `store`; compiled, they stay in registers.
+// made once a call. Blocks are arrays by value; compiled, they stay in registers.
 #![tactic(auto)]
 
 mod constants;
 
-ghost use Rattle.std.specs.Prelude.{◌≡◌, ◌+◌, ◌*◌, ◌%◌, ◌≤◌, ◌<◌, length, take, drop};
+ghost use Rattle.std.specs.Prelude.{◌≡◌, ◌*◌, ◌≤◌, ◌<◌, length};
 ghost use Rattle.std.specs.List.{FoldsTo};
 ghost use mathlib.Core.List.{◌++◌, foldl};
-ghost use Rattle.std.proofs.Math.Seq.{paste};
 ghost use Rattle.aes.specs.Cipher.{cipher, cipher_with, inv_cipher_with};
 ghost use Rattle.basics.specs.Answers.{answer_of};
 ghost use Rattle.modes.specs.Answer.{OfTwoBlocks, OfBlocks, three_blocks, cbc_lengths, cmac_lengths, compress_lengths};
@@ -26,21 +25,6 @@ use std::array;
 
 // ---- blocks and buffers
 
-// The block of a text that starts at `at`.
-fn load(text: &[u8], at: usize) -> [u8; 16]
-    requires { at + 16 ≤ length text.now }
-    ensures { result ≡ take 16 (drop at text.now) }
-{
-    array::from_fn(|i| text[at + i])
-}
-
-fn store(text: &mut [u8], at: usize, block: [u8; 16])
-    requires { at + 16 ≤ length text.old }
-    ensures { text.new ≡ paste text.old at block 16 }
-{
-    text[at..at + 16].copy_from_slice(&block);
-}
-
 // The exclusive or of two blocks.
 fn add(a: [u8; 16], b: [u8; 16]) -> [u8; 16]
     ensures { result ≡ a ⊕ b }
@@ -53,15 +37,12 @@ fn carry<F: Fn([u8; 16], [u8; 16]) -> [u8; 16]>(step: F, start: [u8; 16], text: 
     requires { F.IsAlwaysCallable step }
     ensures { FoldsTo (F.post step) start (blocks text.now) result }
 {
-    let mut carried = start;
-    for i in 0..text.len() / 16 {
-        let next = step(carried, load(text, 16 * i));
-        carried = next;
-    }
-    carried
+    let (whole, _) = text.as_chunks::<16>();
+    whole.iter().copied().fold(start, step)
 }
 
 // Three buffers of a block each: ECB and the key derivation take no others.
+#[tactic(auto, unfolding(crate::specs::Answer::three_blocks, laws::specs::Lengths::right_lengths))]
 pub fn three_blocks(first: usize, second: usize, third: usize) -> bool
     ensures { result ≡ three_blocks first second third }
 {
@@ -69,6 +50,7 @@ pub fn three_blocks(first: usize, second: usize, third: usize) -> bool
 }
 
 // What a step gives of two blocks, written to the third buffer.
+#[tactic(auto, unfolding(crate::specs::Answer::three_blocks, laws::specs::Lengths::right_lengths))]
 fn of_two_blocks<F: Fn([u8; 16], [u8; 16]) -> [u8; 16]>(
     step: F,
     first: &[u8],
@@ -81,13 +63,14 @@ fn of_two_blocks<F: Fn([u8; 16], [u8; 16]) -> [u8; 16]>(
     if !three_blocks(first.len(), second.len(), output.len()) {
         return Err(Refusal::GeneralError);
     }
-    let given = step(load(first, 0), load(second, 0));
-    store(output, 0, given);
+    let given = step(first.try_into().unwrap(), second.try_into().unwrap());
+    output.copy_from_slice(&given);
     Ok(())
 }
 
 // ---- ECB, one block
 
+#[tactic(auto, unfolding(crate::specs::Answer::outcome))]
 pub fn ecb_encrypt(key: &[u8], input: &[u8], output: &mut [u8]) -> Result<(), Refusal>
     ensures value { answer_of result ≡ (ecb_encryption key.now input.now output.old).answer }
     ensures output_after { output.new ≡ (ecb_encryption key.now input.now output.old).output }
@@ -95,6 +78,7 @@ pub fn ecb_encrypt(key: &[u8], input: &[u8], output: &mut [u8]) -> Result<(), Re
     of_two_blocks(aes::encrypt, key, input, output)
 }
 
+#[tactic(auto, unfolding(crate::specs::Answer::outcome))]
 pub fn ecb_decrypt(key: &[u8], input: &[u8], output: &mut [u8]) -> Result<(), Refusal>
     ensures value { answer_of result ≡ (ecb_decryption key.now input.now output.old).answer }
     ensures output_after { output.new ≡ (ecb_decryption key.now input.now output.old).output }
@@ -113,6 +97,7 @@ pub fn cbc_lengths(key: usize, iv: usize, input: usize, output: usize) -> bool
 
 // CBC in either direction. From the schedule, what is carried from the block before, and a block, a step makes the block to write
 // and what to carry on.
+#[tactic(auto, unfolding(crate::specs::Answer::cbc_lengths))]
 fn block_by_block<F: Fn(&[u8; 176], [u8; 16], [u8; 16]) -> ([u8; 16], [u8; 16])>(
     step: F,
     key: &[u8],
@@ -127,16 +112,20 @@ fn block_by_block<F: Fn(&[u8; 176], [u8; 16], [u8; 16]) -> ([u8; 16], [u8; 16])>
     if !cbc_lengths(key.len(), iv.len(), input.len(), output.len()) {
         return Err(Refusal::GeneralError);
     }
-    let w = aes::expand_key(load(key, 0));
-    let mut carried = load(iv, 0);
-    for i in 0..input.len() / 16 {
-        let (written, next) = step(&w, carried, load(input, 16 * i));
-        store(output, 16 * i, written);
+    let w = aes::expand_key(key.try_into().unwrap());
+    let mut carried = iv.try_into().unwrap();
+    let (whole, _) = input.as_chunks::<16>();
+    // The output is written at its places, and not cut into chunks too: of chunks that it lends for writing the library does not say
+    // what the whole is afterwards.
+    for (i, block) in whole.iter().enumerate() {
+        let (written, next) = step(&w, carried, *block);
+        output[16 * i..16 * i + 16].copy_from_slice(&written);
         carried = next;
     }
     Ok(())
 }
 
+#[tactic(auto, unfolding(crate::specs::Answer::outcome, crate::specs::Cbc::cbc_encrypt, aes::specs::Cipher::cipher))]
 pub fn cbc_encrypt(key: &[u8], iv: &[u8], input: &[u8], output: &mut [u8]) -> Result<(), Refusal>
     ensures value { answer_of result ≡ (cbc_encryption key.now iv.now input.now output.old).answer }
     ensures output_after { output.new ≡ (cbc_encryption key.now iv.now input.now output.old).output }
@@ -155,6 +144,7 @@ pub fn cbc_encrypt(key: &[u8], iv: &[u8], input: &[u8], output: &mut [u8]) -> Re
     )
 }
 
+#[tactic(auto, unfolding(crate::specs::Answer::outcome, crate::specs::Cbc::cbc_decrypt, aes::specs::Cipher::inv_cipher))]
 pub fn cbc_decrypt(key: &[u8], iv: &[u8], input: &[u8], output: &mut [u8]) -> Result<(), Refusal>
     ensures value { answer_of result ≡ (cbc_decryption key.now iv.now input.now output.old).answer }
     ensures output_after { output.new ≡ (cbc_decryption key.now iv.now input.now output.old).output }
@@ -186,6 +176,7 @@ fn shift_left(x: [u8; 16]) -> [u8; 16]
 const R_128: [u8; 16] = [0, 0, 0, 0, 0, 0, 0, 0, 0, 0, 0, 0, 0, 0, 0, 0x87];
 
 // A block times x in GF(2^128).
+#[tactic(auto, using(crate::proofs::Subkeys::doubled))]
 fn double(x: [u8; 16]) -> [u8; 16]
     ensures { result ≡ double x }
 {
@@ -197,12 +188,14 @@ fn double(x: [u8; 16]) -> [u8; 16]
 }
 
 // The two subkeys, under any schedule.
+#[tactic(auto, unfolding(crate::specs::Cmac::k1))]
 pub fn subkey_1(w: &[u8; 176]) -> [u8; 16]
     ensures { result ≡ k1 (cipher_with w.now) }
 {
     double(aes::encrypt_with(w, [0u8; 16]))
 }
 
+#[tactic(auto, unfolding(crate::specs::Cmac::k2))]
 pub fn subkey_2(w: &[u8; 176]) -> [u8; 16]
     ensures { result ≡ k2 (cipher_with w.now) }
 {
@@ -210,6 +203,7 @@ pub fn subkey_2(w: &[u8; 176]) -> [u8; 16]
 }
 
 // The first t bits of a byte, a 1, and zeros: the bit after them is the lowest that is left by the shift to the right.
+#[tactic(auto, using(crate::proofs::Padding::cut_by_shifts))]
 fn cut_byte(t: usize, b: u8) -> u8
     requires { t < 8 }
     ensures { result ≡ cut t b }
@@ -218,6 +212,7 @@ fn cut_byte(t: usize, b: u8) -> u8
 }
 
 // The first r bits of a block, a 1, and zeros.
+#[tactic(auto, using(crate::proofs::Padding::padded_block))]
 fn pad(r: usize, x: [u8; 16]) -> [u8; 16]
     requires { r < 128 }
     ensures { result ≡ padded r x }
@@ -230,6 +225,7 @@ fn pad(r: usize, x: [u8; 16]) -> [u8; 16]
 }
 
 // What stands for the last block of a message, r bits of which count: complete with K1, or padded with K2.
+#[tactic(auto, unfolding(crate::specs::Cmac::last_block))]
 fn last_block(w: &[u8; 176], r: usize, x: [u8; 16]) -> [u8; 16]
     requires { r ≤ 128 }
     ensures { result ≡ last_block (cipher_with w.now) r x }
@@ -242,6 +238,7 @@ fn last_block(w: &[u8; 176], r: usize, x: [u8; 16]) -> [u8; 16]
 
 // All blocks of a text chained from a start, under any schedule: the last block of its CBC ciphertext, and nothing else of it is
 // kept.
+#[tactic(auto, using(crate::proofs::Folds::folded))]
 fn chain(w: &[u8; 176], start: [u8; 16], text: &[u8]) -> [u8; 16]
     ensures { result ≡ foldl (chained (cipher_with w.now)) start (blocks text.now) }
 {
@@ -258,8 +255,7 @@ fn block_count(bits: u64) -> usize
     requires { bits ≤ 524288 }
     ensures { result ≡ block_count bits }
 {
-    let n = (bits as usize + 127) / 128;
-    if n == 0 { 1 } else { n }
+    (bits as usize).div_ceil(128).max(1)
 }
 
 #[tactic(auto, unfolding(crate::specs::Answer::cmac_lengths))]
@@ -278,15 +274,18 @@ fn finish(w: &[u8; 176], c: [u8; 16], r: usize, x: [u8; 16]) -> [u8; 16]
 }
 
 // The MAC of a message in whole blocks, of which so many bits count.
+#[tactic(auto, using(crate::proofs::MacSteps::mac_whole))]
 fn mac(w: &[u8; 176], bits: u64, message: &[u8]) -> [u8; 16]
     requires { (bits ≤ 524288) × (length message.now ≡ 16 * block_count bits) }
     ensures { result ≡ cmac (cipher_with w.now) bits message.now }
 {
     let at = message.len() - 16;
     let c = chain(w, [0u8; 16], &message[..at]);
-    finish(w, c, bits as usize - 8 * at, load(message, at))
+    let last = message[at..].try_into().unwrap();
+    finish(w, c, bits as usize - 8 * at, last)
 }
 
+#[tactic(auto, using(aes::proofs::Rounds::ciphers), unfolding(crate::specs::Answer::cmac_lengths, crate::specs::Answer::outcome))]
 pub fn cmac(key: &[u8], bits: u64, message: &[u8], output: &mut [u8]) -> Result<(), Refusal>
     ensures value { answer_of result ≡ (authentication key.now bits message.now output.old).answer }
     ensures output_after { output.new ≡ (authentication key.now bits message.now output.old).output }
@@ -294,13 +293,14 @@ pub fn cmac(key: &[u8], bits: u64, message: &[u8], output: &mut [u8]) -> Result<
     if !cmac_lengths(key.len(), bits, message.len(), output.len()) {
         return Err(Refusal::GeneralError);
     }
-    let w = aes::expand_key(load(key, 0));
+    let w = aes::expand_key(key.try_into().unwrap());
     let result = mac(&w, bits, message);
-    store(output, 0, result);
+    output.copy_from_slice(&result);
     Ok(())
 }
 
 // The MAC of a first block and of a text of whole bytes after it, of any length, which is read where it lies.
+#[tactic(auto, using(crate::proofs::TextMac::text_macs), unfolding(aes::specs::Cipher::cipher))]
 pub fn text_mac(key: [u8; 16], first: [u8; 16], text: &[u8]) -> [u8; 16]
     ensures { result ≡ text_mac (cipher key) (first ++ text.now) }
 {
@@ -327,6 +327,7 @@ fn compress_block(out: [u8; 16], x: [u8; 16]) -> [u8; 16]
     add(add(aes::encrypt(out, x), x), out)
 }
 
+#[tactic(auto, unfolding(crate::specs::Answer::compress_lengths, laws::specs::Lengths::right_lengths))]
 fn compress_lengths(start: usize, text: usize, output: usize) -> bool
     ensures { result ≡ compress_lengths start text output }
 {
@@ -334,6 +335,7 @@ fn compress_lengths(start: usize, text: usize, output: usize) -> bool
 }
 
 // The compression of a text in whole blocks, carried on from a start, which is an earlier output or zero.
+#[tactic(auto, using(crate::proofs::Folds::folded), unfolding(crate::specs::Compression::compress_from, crate::specs::Answer::compress_lengths, crate::specs::Answer::outcome, laws::specs::Lengths::right_lengths))]
 pub fn compress(start: &[u8], text: &[u8], output: &mut [u8]) -> Result<(), Refusal>
     ensures value { answer_of result ≡ (compression start.now text.now output.old).answer }
     ensures output_after { output.new ≡ (compression start.now text.now output.old).output }
@@ -341,12 +343,13 @@ pub fn compress(start: &[u8], text: &[u8], output: &mut [u8]) -> Result<(), Refu
     if !compress_lengths(start.len(), text.len(), output.len()) {
         return Err(Refusal::GeneralError);
     }
-    let result = carry(compress_block, load(start, 0), text);
-    store(output, 0, result);
+    let result = carry(compress_block, start.try_into().unwrap(), text);
+    output.copy_from_slice(&result);
     Ok(())
 }
 
 // Two blocks, from zero.
+#[tactic(auto, using(crate::proofs::Compression::two_compressed))]
 fn compress_two(a: [u8; 16], b: [u8; 16]) -> [u8; 16]
     ensures { result ≡ compress (a ++ b) }
 {
@@ -354,6 +357,7 @@ fn compress_two(a: [u8; 16], b: [u8; 16]) -> [u8; 16]
 }
 
 // The key that is derived from a key and any constant.
+#[tactic(auto, unfolding(crate::specs::Answer::outcome, crate::specs::Compression::kdf))]
 pub fn kdf(key: &[u8], constant: &[u8], output: &mut [u8]) -> Result<(), Refusal>
     ensures value { answer_of result ≡ (derivation key.now constant.now output.old).answer }
     ensures output_after { output.new ≡ (derivation key.now constant.now output.old).output }
@@ -375,7 +379,7 @@ pub enum Constant {
 pub fn constant_of(name: Constant) -> [u8; 16]
     ensures { result ≡ constant_of name }
 {
-    let table = constants::CONSTANTS;
+    let table = &constants::CONSTANTS;
     match name {
         Constant::KeyUpdateEnc => table[0],
         Constant::KeyUpdateMac => table[1],
@@ -387,6 +391,7 @@ pub fn constant_of(name: Constant) -> [u8; 16]
 }
 
 // The key that is derived from a key and one of the constants.
+#[tactic(auto, unfolding(crate::specs::Compression::kdf))]
 pub fn derive(key: [u8; 16], name: Constant) -> [u8; 16]
     ensures { result ≡ kdf key (constant_of name) }
 {
@@ -394,6 +399,7 @@ pub fn derive(key: [u8; 16], name: Constant) -> [u8; 16]
 }
 
 // A seed or a random state, extended by entropy.
+#[tactic(auto, using(crate::proofs::Compression::three_compressed))]
 pub fn extend(seed: [u8; 16], entropy: [u8; 16]) -> [u8; 16]
     ensures { result ≡ compress (seed ++ (entropy ++ constant_of Constant.PrngExtension)) }
 {

@@ -2,19 +2,25 @@
 -- Assumes nothing.
 use mathlib.Core.Path.{◌≡◌, refl, sym, ap, ◌∙◌}
 use mathlib.Core.Bool.{Bool, true, false, not, cond, ◌&&◌, and-false}
-use mathlib.Core.List.{List}
+use mathlib.Core.List.{List, [], ◌∷◌}
+use mir.Val.{bool_byte}
 use Prim.Native.Nat.{ℕ, ◌≤◌, ◌<◌}
 use native.Mathlib.Omega.{arith}
 use borrow.Author.Tests.{lt-leb}
 use lib.Dec.{leb}
 use lib.ListN.{length}
 use Rattle.laws.specs.Lengths.{right_lengths}
+use Rattle.aes.specs.Cipher.{cipher, inv_cipher}
 use Rattle.basics.specs.Answers.{general_error, key_invalid}
 use Rattle.basics.specs.Wide.{saturated}
 use Rattle.basics.proofs.Wide.{saturates, fitting, wide_test, by_answer_lem}
+use Rattle.modes.specs.Answer.{cmac_lengths}
+use Rattle.modes.specs.Cbc.{cbc_encrypt, cbc_decrypt}
+use Rattle.modes.specs.Cmac.{cmac}
 use Rattle.message.specs.FirstBlock.{max_counter}
 use Rattle.message.specs.Writer.{message_lengths, writer_answer, full_form, short_flags, short_form, proof_lengths, proof_form}
 use Rattle.message.specs.declared.Role.{Role}
+use Rattle.message.specs.declared.Role.TheVariants.{Cipher, GenerateMac, VerifyMac}
 use Rattle.message.proofs.Slots.{role_15, pair_slots, wide_pair}
 use Rattle.message.proofs.Written.{no_faults, messages_refused, proof_refused}
 use Rattle.device.specs.Made.{made}
@@ -23,6 +29,7 @@ use Rattle.device.specs.Outcome.{refused}
 use Rattle.device.specs.declared.Device.{Device}
 use Rattle.device.proofs.Account.{is_refused, not_long}
 use Rattle.commands.specs.Checks.{slot_checks, Use, with_key}
+use Rattle.commands.specs.Commands.{enc_ecb, dec_ecb, enc_cbc, dec_cbc, generate_mac, mac_agrees, verify_mac}
 
 -- ---- the slot of a call that uses a key
 not_zero : (a b : Bool) → cond a general_error (cond b general_error key_invalid) ≡ 0 → ⊥
@@ -45,6 +52,28 @@ module _ (d : Device) (role : Role) (u : Use) where
   wide_slot slot =
       saturates (λ (s : ℕ). perform (with_key s role u) d) 255 slot (λ h. sym (no_slot 255 (omega arith)) ∙ no_slot slot (omega arith))
 
+-- so a command of a slot that is too wide does what it does of the largest byte
+module _ (d : Device) (slot : ℕ) (input output : List ℕ) where
+  pub wide_enc_ecb : perform (enc_ecb (saturated 255 slot) input output) d ≡ perform (enc_ecb slot input output) d
+  unfolding enc_ecb
+  wide_enc_ecb = wide_slot d Cipher (record { lent = _; brought = _; lengths = _; gives = λ key. (0, cipher key input ∷ []) }) slot
+
+  pub wide_dec_ecb : perform (dec_ecb (saturated 255 slot) input output) d ≡ perform (dec_ecb slot input output) d
+  unfolding dec_ecb
+  wide_dec_ecb = wide_slot d Cipher (record { lent = _; brought = _; lengths = _; gives = λ key. (0, inv_cipher key input ∷ []) }) slot
+
+  pub wide_enc_cbc : (iv : List ℕ) → perform (enc_cbc (saturated 255 slot) iv input output) d ≡ perform (enc_cbc slot iv input output) d
+  unfolding enc_cbc
+  wide_enc_cbc iv = wide_slot d Cipher (record { lent = _; brought = _; lengths = _; gives = λ key. (0, cbc_encrypt (cipher key) iv input ∷ []) }) slot
+
+  pub wide_dec_cbc : (iv : List ℕ) → perform (dec_cbc (saturated 255 slot) iv input output) d ≡ perform (dec_cbc slot iv input output) d
+  unfolding dec_cbc
+  wide_dec_cbc iv = wide_slot d Cipher (record { lent = _; brought = _; lengths = _; gives = λ key. (0, cbc_decrypt (inv_cipher key) iv input ∷ []) }) slot
+
+  pub wide_generate_mac : (bits : ℕ) → perform (generate_mac (saturated 255 slot) bits input output) d ≡ perform (generate_mac slot bits input output) d
+  unfolding generate_mac
+  wide_generate_mac bits = wide_slot d GenerateMac (record { lent = _; brought = _; lengths = _; gives = λ key. (0, cmac (cipher key) bits input ∷ []) }) slot
+
 -- ---- the length of a MAC, 0 to 127
 module _ (d : Device) (slot : ℕ) (role : Role) (lent brought : List (List ℕ)) (lengths : Bool) (gives : ℕ → List ℕ → ℕ × List (List ℕ)) where
   abbrev call : ℕ → Account
@@ -59,6 +88,15 @@ module _ (d : Device) (slot : ℕ) (role : Role) (lent brought : List (List ℕ)
 
   pub wide_length : (n : ℕ) → perform (call (saturated 255 n)) d ≡ perform (call n) d
   wide_length n = saturates (λ (m : ℕ). perform (call m) d) 255 n (λ h. sym (too_long 255 (omega arith)) ∙ too_long n (omega arith))
+
+pub wide_verify_mac : (d : Device) (slot bits : ℕ) (message mac : List ℕ) (n : ℕ)
+    → perform (verify_mac (saturated 255 slot) bits message mac (saturated 255 n)) d ≡ perform (verify_mac slot bits message mac n) d
+unfolding verify_mac
+wide_verify_mac d slot bits message mac n =
+    let gives : ℕ → List ℕ → ℕ × List (List ℕ)
+    = λ (m : ℕ) (key : List ℕ). (bool_byte (mac_agrees m (cmac (cipher key) bits message) mac), []) in
+    wide_slot d VerifyMac (record { lent = _; brought = _; lengths = _; gives = gives (saturated 255 n) }) slot
+    ∙ wide_length d slot VerifyMac _ _ (cmac_lengths 16 bits (length message) (length mac)) gives n
 
 -- ---- the numbers of a key message: counter, flags and the two slots
 abbrev limit32 : ℕ
@@ -110,3 +148,7 @@ wide_proof uid key b4 b5 t a c =
     by_answer_lem answer
     (λ zero. let fit = all_fit lengths c 0 t a zero in rw (fit.0, fit.2, fit.3) refl)
     (λ other. sym (proof_refused uid key b4 b5 _ _ _ answer same other) ∙ proof_refused uid key b4 b5 t a c answer refl other)
+
+-- what the proofs of the calls in place use
+pub ruleset wide_laws =
+    (wide_enc_ecb, wide_dec_ecb, wide_enc_cbc, wide_dec_cbc, wide_generate_mac, wide_verify_mac, wide_form, wide_short, wide_proof)

@@ -3,12 +3,9 @@
 //
 // Numbers come in wider than the core takes them, and a number too wide is the largest of its place and never its last digits. The
 // promises don't speak of that: each is the core's own definition, of the number as it came in. So slot 0x104 is no slot here.
-#![tactic(auto)]
+#![tactic(auto, using(crate::proofs::Wide::wide_laws, crate::proofs::Making::made_over))]
 
-ghost use mir.Val.{bool_byte};
-ghost use Rattle.std.specs.Prelude.{false, ◌≡◌, ◌∷◌, []};
-ghost use Rattle.std.specs.Result.{result_unwrap_or};
-ghost use Rattle.basics.specs.Answers.{answer_of};
+ghost use Rattle.std.specs.Prelude.{◌≡◌, ◌∷◌, []};
 ghost use Rattle.basics.specs.Wide.{saturated};
 ghost use Rattle.modes.specs.Routines.{ecb_encryption, ecb_decryption, cbc_encryption, cbc_decryption, authentication, derivation};
 ghost use Rattle.message.specs.Flags.{flag_count};
@@ -21,7 +18,7 @@ ghost use Rattle.load.specs.Load.{load_key};
 ghost use Rattle.load.specs.Export.{export_ram_key};
 ghost use Rattle.she.specs.She.{make_anew};
 
-use basics::{Refusal, answer_of, store, to_byte};
+use basics::{answer_of, store, to_byte};
 use device::Device;
 use message::Update;
 
@@ -187,83 +184,14 @@ pub extern "C" fn she_write_proof(
     ))
 }
 
-// ---- the device by value: commands with wide numbers, and making over a record
-
-fn enc_ecb(device: Device, slot: u32, input: &[u8], output: &mut [u8]) -> Result<(), Refusal>
-    ensures { outcome (answer_of result) device 0 (output.new ∷ []) ≡ perform (enc_ecb slot input.now output.old) device }
-{
-    commands::enc_ecb(device, to_byte(slot), input, output)
-}
-
-fn dec_ecb(device: Device, slot: u32, input: &[u8], output: &mut [u8]) -> Result<(), Refusal>
-    ensures { outcome (answer_of result) device 0 (output.new ∷ []) ≡ perform (dec_ecb slot input.now output.old) device }
-{
-    commands::dec_ecb(device, to_byte(slot), input, output)
-}
-
-fn enc_cbc(
-    device: Device,
-    slot: u32,
-    iv: &[u8],
-    input: &[u8],
-    output: &mut [u8],
-) -> Result<(), Refusal>
-    ensures { outcome (answer_of result) device 0 (output.new ∷ []) ≡ perform (enc_cbc slot iv.now input.now output.old) device }
-{
-    commands::enc_cbc(device, to_byte(slot), iv, input, output)
-}
-
-fn dec_cbc(
-    device: Device,
-    slot: u32,
-    iv: &[u8],
-    input: &[u8],
-    output: &mut [u8],
-) -> Result<(), Refusal>
-    ensures { outcome (answer_of result) device 0 (output.new ∷ []) ≡ perform (dec_cbc slot iv.now input.now output.old) device }
-{
-    commands::dec_cbc(device, to_byte(slot), iv, input, output)
-}
-
-fn generate_mac(
-    device: Device,
-    slot: u32,
-    bits: u64,
-    message: &[u8],
-    mac: &mut [u8],
-) -> Result<(), Refusal>
-    ensures { outcome (answer_of result) device 0 (mac.new ∷ []) ≡ perform (generate_mac slot bits message.now mac.old) device }
-{
-    commands::generate_mac(device, to_byte(slot), bits, message, mac)
-}
-
-fn verify_mac(
-    device: Device,
-    slot: u32,
-    bits: u64,
-    message: &[u8],
-    mac: &[u8],
-    macbits: u32,
-) -> Result<bool, Refusal>
-    ensures { outcome (answer_of result) device (bool_byte (result_unwrap_or result false)) [] ≡ perform (verify_mac slot bits message.now mac.now macbits) device }
-{
-    commands::verify_mac(device, to_byte(slot), bits, message, mac, to_byte(macbits))
-}
+// ---- the device in place: each calls the command once on what the record holds, stores what it hands back, and answers
 
 // Where making is refused the record stays, and is not blanked.
-fn make(device: Device, uid: &[u8], secret: &[u8], seed: &[u8]) -> Result<Device, Refusal>
-    ensures { outcome (answer_of result) (result_unwrap_or result device) 0 [] ≡ make_anew device uid.now secret.now seed.now }
-{
-    commands::make(uid, secret, seed)
-}
-
-// ---- the device in place: each calls the command once on what the record holds, stores what comes of it, and answers
-
 #[unsafe(no_mangle)]
 pub extern "C" fn she_make(device: &mut Device, uid: &[u8], secret: &[u8], seed: &[u8]) -> u8
     ensures { outcome result device.new 0 [] ≡ make_anew device.old uid.now secret.now seed.now }
 {
-    store(device, make(*device, uid, secret, seed))
+    store(device, commands::make(uid, secret, seed))
 }
 
 #[unsafe(no_mangle)]
@@ -284,14 +212,14 @@ pub extern "C" fn she_attach_debugger(device: &mut Device) -> u8
 pub extern "C" fn she_enc_ecb(device: &mut Device, slot: u32, input: &[u8], output: &mut [u8]) -> u8
     ensures { outcome result device.new 0 (output.new ∷ []) ≡ perform (enc_ecb slot input.now output.old) device.old }
 {
-    answer_of(enc_ecb(*device, slot, input, output))
+    answer_of(commands::enc_ecb(*device, to_byte(slot), input, output))
 }
 
 #[unsafe(no_mangle)]
 pub extern "C" fn she_dec_ecb(device: &mut Device, slot: u32, input: &[u8], output: &mut [u8]) -> u8
     ensures { outcome result device.new 0 (output.new ∷ []) ≡ perform (dec_ecb slot input.now output.old) device.old }
 {
-    answer_of(dec_ecb(*device, slot, input, output))
+    answer_of(commands::dec_ecb(*device, to_byte(slot), input, output))
 }
 
 #[unsafe(no_mangle)]
@@ -304,7 +232,7 @@ pub extern "C" fn she_enc_cbc(
 ) -> u8
     ensures { outcome result device.new 0 (output.new ∷ []) ≡ perform (enc_cbc slot iv.now input.now output.old) device.old }
 {
-    answer_of(enc_cbc(*device, slot, iv, input, output))
+    answer_of(commands::enc_cbc(*device, to_byte(slot), iv, input, output))
 }
 
 #[unsafe(no_mangle)]
@@ -317,7 +245,7 @@ pub extern "C" fn she_dec_cbc(
 ) -> u8
     ensures { outcome result device.new 0 (output.new ∷ []) ≡ perform (dec_cbc slot iv.now input.now output.old) device.old }
 {
-    answer_of(dec_cbc(*device, slot, iv, input, output))
+    answer_of(commands::dec_cbc(*device, to_byte(slot), iv, input, output))
 }
 
 #[unsafe(no_mangle)]
@@ -330,7 +258,7 @@ pub extern "C" fn she_generate_mac(
 ) -> u8
     ensures { outcome result device.new 0 (mac.new ∷ []) ≡ perform (generate_mac slot bits message.now mac.old) device.old }
 {
-    answer_of(generate_mac(*device, slot, bits, message, mac))
+    answer_of(commands::generate_mac(*device, to_byte(slot), bits, message, mac))
 }
 
 #[unsafe(no_mangle)]
@@ -348,7 +276,9 @@ pub extern "C" fn she_verify_mac(
     *verdict = 0;
     store(
         verdict,
-        verify_mac(*device, slot, bits, message, mac, macbits).map(u8::from),
+        commands::verify_mac(*device, to_byte(slot), bits, message, mac, to_byte(macbits)).map(
+            u8::from,
+        ),
     )
 }
 

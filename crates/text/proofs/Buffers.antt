@@ -2,7 +2,7 @@
 -- Assumes nothing.
 use mathlib.Core.Path.{◌≡◌, sym, ap, ap₂, ◌∙◌}
 use mathlib.Core.List.{List, [], ◌∷◌, ◌++◌}
-use Prim.Native.Nat.{ℕ, suc, ◌+◌, ◌≤◌, ◌<◌, min}
+use Prim.Native.Nat.{ℕ, suc, ◌-◌, ◌≤◌, ◌<◌, min}
 use native.Mathlib.Decide.{dec_le}
 use native.Mathlib.Nat.{lt_of_not-le}
 use native.Mathlib.Numerals.{add-one}
@@ -44,18 +44,18 @@ over_more s b v = cases (dec_le (length b) (length s))
     cases (yes h) = set_out (over s b) (length s) v (omega (arith, length_over s b)) ∙ sym (over_past s (v ∷ []) b h)
     cases (no h) = put_next s b v (lt_of_not-le h)
 
--- a turn of the loop `w[i] = t[i]; i += 1`, and its end
-pub over_next : (t b w : List ℕ) (i v : ℕ) → i < length t → v ≡ get_or t i 0 → w ≡ over (take i t) b
-    → set w i v ≡ over (take (i + 1) t) b
-over_next t b w i v enough e inv =
-    let long : length (take i t) ≡ i = length-take-le i t (omega arith) in
-    ap₂ (λ (l : List ℕ) (x : ℕ). set l i x) inv e
-    ∙ sym (ap (λ (k : ℕ). set (over (take i t) b) k (get_or t i 0)) long)
-    ∙ over_more (take i t) b (get_or t i 0)
-    ∙ sym (ap (λ (l : List ℕ). over l b) (ap (λ (n : ℕ). take n t) (add-one i) ∙ take-suc t i 0 enough))
+-- the last byte of a front is set over the others, and what has no room changes nothing
+pub over_last : (t b : List ℕ) (i : ℕ) → 0 < i → i ≤ length t → over (take i t) b ≡ set (over (take (i - 1) t) b) (i - 1) (get_or t (i - 1) 0)
+over_last t b i some enough =
+    let k : ℕ = i - 1 in
+    let next : i ≡ suc k = omega arith in
+    let long : length (take k t) ≡ k = length-take-le k t (omega arith) in
+    ap (λ (l : List ℕ). over l b) (ap (λ (n : ℕ). take n t) next ∙ take-suc t k 0 (omega arith))
+    ∙ sym (over_more (take k t) b (get_or t k 0))
+    ∙ ap (λ (n : ℕ). set (over (take k t) b) n (get_or t k 0)) long
 
-pub over_all : (t b w : List ℕ) (i : ℕ) → i ≡ min (length t) (length b) → w ≡ over (take i t) b → w ≡ over t b
-over_all t b w i e inv = inv ∙ cases (dec_le (length b) (length t))
+pub over_all : (t b : List ℕ) (i : ℕ) → i ≡ min (length t) (length b) → over (take i t) b ≡ over t b
+over_all t b i e = cases (dec_le (length b) (length t))
   where
     cases : Dec (length b ≤ length t) → over (take i t) b ≡ over t b
     cases (yes h) =

@@ -1,6 +1,6 @@
 -- A loop that reads digits: character after character, and two digits to a byte.
 -- Assumes nothing.
-use mathlib.Core.Path.{◌≡◌, refl, sym, ap, ap₂, ◌∙◌, subst}
+use mathlib.Core.Path.{◌≡◌, refl, sym, ap, ap₂, ◌∙◌}
 use mathlib.Core.Bool.{Bool, true, false, cond}
 use mathlib.Core.List.{List, [], ◌∷◌, ◌++◌, append-nil}
 use Prim.Native.Nat.{ℕ, suc, ◌+◌, ◌-◌, ◌*◌, ◌/◌, ◌%◌, ◌≤◌, ◌<◌}
@@ -56,59 +56,43 @@ second_of_two (a ∷ b ∷ l) d h =
     ap (λ (t : List ℕ). (16 * a + b) ∷ t) (second_of_two l d (omega arith))
     ∙ sym (ap (λ (k : ℕ). (16 * a + b) ∷ (pairs l ++ ((16 * get_or (a ∷ b ∷ l) k 0 + d) ∷ []))) at)
 
--- ---- the loop: the digits so far, the last of them, and their bytes over a buffer
+-- ---- the loop: what it keeps is how many digits there are so far, the last of them, and their bytes over a buffer
 abbrev pub Read : List ℕ → List ℕ → List ℕ → ℕ → ℕ → Type 0
 Read b w digits count high = (count ≡ length digits) × (high ≡ get_or digits (length digits - 1) 0) × (w ≡ over (pairs digits) b)
 
-pub read_none : (b : List ℕ) → Read b b (digits_in []) 0 0
-unfolding digits_in pairs
-read_none b = (refl, refl, sym (over_none b))
+-- a digit more is counted, is the last, and makes a byte of two
+pub counted : (l : List ℕ) (d : ℕ) → (length (l ++ (d ∷ [])) ≡ length l + 1) × (get_or (l ++ (d ∷ [])) (length l) 0 ≡ d)
+counted l d = (length-append l (d ∷ []), get_or-append_seam l d [] 0)
 
--- another digit
-read_more : (b w u l : List ℕ) (count high d : ℕ) → u ≡ cond (eqb (count % 2) 0) w (set w (count / 2) (16 * high + d))
-    → Read b w l count high → Read b u (l ++ (d ∷ [])) (count + 1) d
-read_more b w u l count high d made (counted, last, bytes) =
-    (ap (λ (n : ℕ). n + 1) counted ∙ sym (length-append l (d ∷ [])), sym seam, made ∙ put (eqb (count % 2) 0) refl)
+pub read_more : (b l : List ℕ) (d : ℕ) → over (pairs (l ++ (d ∷ []))) b
+    ≡ cond (eqb (length l % 2) 0) (over (pairs l) b) (set (over (pairs l) b) (length l / 2) (16 * get_or l (length l - 1) 0 + d))
+read_more b l d = put (eqb (length l % 2) 0) refl
   where
-    seam : get_or (l ++ (d ∷ [])) (length (l ++ (d ∷ [])) - 1) 0 ≡ d
-    seam =
-        let at : length (l ++ (d ∷ [])) - 1 ≡ length l = omega (arith, length-append l (d ∷ [])) in
-        ap (λ (k : ℕ). get_or (l ++ (d ∷ [])) k 0) at ∙ get_or-append_seam l d [] 0
+    x : ℕ
+    x = 16 * get_or l (length l - 1) 0 + d
 
-    put : (t : Bool) → eqb (count % 2) 0 ≡ t → cond t w (set w (count / 2) (16 * high + d)) ≡ over (pairs (l ++ (d ∷ []))) b
-    put true e =
-        bytes ∙ sym (ap (λ (s : List ℕ). over s b) (first_of_two l d (omega (arith, counted, eqb-true (count % 2) 0 e))))
+    put : (t : Bool) → eqb (length l % 2) 0 ≡ t → over (pairs (l ++ (d ∷ []))) b ≡ cond t (over (pairs l) b) (set (over (pairs l) b) (length l / 2) x)
+    put true e = ap (λ (s : List ℕ). over s b) (first_of_two l d (omega (arith, eqb-true (length l % 2) 0 e)))
     put false e =
-        let place : count / 2 ≡ length (pairs l) = omega (arith, counted, length_pairs l) in
-        let odd : length l % 2 ≡ 1 = omega (arith, counted, eqb-false (count % 2) 0 e) in
-        ap₂ (λ (x : List ℕ) (k : ℕ). set x k (16 * high + d)) bytes place
-        ∙ over_more (pairs l) b (16 * high + d)
-        ∙ ap (λ (x : ℕ). over (pairs l ++ ((16 * x + d) ∷ [])) b) last
-        ∙ sym (ap (λ (s : List ℕ). over s b) (second_of_two l d odd))
+        ap (λ (s : List ℕ). over s b) (second_of_two l d (omega (arith, eqb-false (length l % 2) 0 e)))
+        ∙ sym (over_more (pairs l) b x) ∙ ap (λ (k : ℕ). set (over (pairs l) b) k x) (length_pairs l)
 
--- the next character is a digit, or is none; and all are read
-pub read_digit : (b w u text : List ℕ) (i count high d : ℕ) → i < length text → d ≡ digit_value (get_or text i 0) → d < 16
-    → u ≡ cond (eqb (count % 2) 0) w (set w (count / 2) (16 * high + d))
-    → Read b w (digits_in (take i text)) count high → Read b u (digits_in (take (i + 1) text)) (count + 1) d
-unfolding digits_in
-read_digit b w u text i count high d h e small made read =
-    let one = ap (λ (t : Bool). cond t (digit_value (get_or text i 0) ∷ []) []) (lt-ltb (digit_value (get_or text i 0)) 16 (omega arith)) in
-    let last = one ∙ ap (λ (x : ℕ). x ∷ []) (sym e) in
-    let grown = digits_next text i h ∙ ap (λ (l : List ℕ). digits_in (take i text) ++ l) last in
-    subst (λ (l : List ℕ). Read b u l (count + 1) d) (sym grown) (read_more b w u (digits_in (take i text)) count high d made read)
+-- the next character is a digit, or is none
+module _ (text : List ℕ) (i : ℕ) (there : i < length text) where
+  abbrev next : ℕ
+  next = digit_value (get_or text i 0)
 
-pub read_other : (b w text : List ℕ) (i count high : ℕ) → i < length text → 16 ≤ digit_value (get_or text i 0)
-    → Read b w (digits_in (take i text)) count high → Read b w (digits_in (take (i + 1) text)) count high
-unfolding digits_in
-read_other b w text i count high h large read =
-    let none = ap (λ (t : Bool). cond t (digit_value (get_or text i 0) ∷ []) []) (le-ltb (digit_value (get_or text i 0)) 16 large) in
-    let same = digits_next text i h ∙ ap (λ (l : List ℕ). digits_in (take i text) ++ l) none ∙ append-nil (digits_in (take i text)) in
-    subst (λ (l : List ℕ). Read b w l count high) (sym same) read
+  pub read_digit : next < 16 → digits_in (take (i + 1) text) ≡ digits_in (take i text) ++ (next ∷ [])
+  unfolding digits_in
+  read_digit small = digits_next text i there ∙ ap (λ (t : Bool). digits_in (take i text) ++ cond t (next ∷ []) []) (lt-ltb next 16 small)
 
-pub read_all : (b w text : List ℕ) (i count high : ℕ) → length text ≤ i → Read b w (digits_in (take i text)) count high
-    → (w ≡ over (pairs (digits_in text)) b) × (count ≡ length (digits_in text))
-read_all b w text i count high h read =
-    let all = subst (λ (l : List ℕ). Read b w (digits_in l) count high) (take_all i text h) read in (all.2, all.0)
+  pub read_other : 16 ≤ next → digits_in (take (i + 1) text) ≡ digits_in (take i text)
+  unfolding digits_in
+  read_other large =
+      digits_next text i there ∙ ap (λ (t : Bool). digits_in (take i text) ++ cond t (next ∷ []) []) (le-ltb next 16 large)
+      ∙ append-nil (digits_in (take i text))
+
+pub ruleset reading = (over_none, counted, read_more, read_digit, read_other, take_all)
 
 -- ---- bytes that were put in digits are read back
 letter_value : (k : ℕ) → k < 16 → digit_value (get_or letters k 0) ≡ k

@@ -44,6 +44,7 @@ pub fn last(bytes: &[u8], n: u64) -> &[u8]
 // ---- what marks part: lines, words, operands
 
 // Where the first such mark stands, or the text's end.
+#[tactic(auto, using(crate::proofs::Marks::first_mark))]
 fn place_of(text: &[u8], mark: u8) -> usize
     ensures value { result ≡ index_of mark text.now }
     ensures upper_bound { result ≤ length text.now }
@@ -52,6 +53,7 @@ fn place_of(text: &[u8], mark: u8) -> usize
 }
 
 // What stands before the first such mark: all, where there is none.
+#[tactic(auto, unfolding(crate::specs::Marks::before_mark))]
 pub fn before(text: &[u8], mark: u8) -> &[u8]
     ensures { result.now ≡ before_mark mark text.now }
 {
@@ -59,6 +61,7 @@ pub fn before(text: &[u8], mark: u8) -> &[u8]
 }
 
 // What comes after the first such mark: nothing, where there is none.
+#[tactic(auto, unfolding(crate::specs::Marks::after_mark))]
 pub fn after(text: &[u8], mark: u8) -> &[u8]
     ensures { result.now ≡ after_mark mark text.now }
 {
@@ -106,6 +109,7 @@ pub fn digit(c: u8) -> u8
 }
 
 // One of the digits of some bytes, and 0 past the last.
+#[tactic(auto, using(crate::proofs::Hex::digits))]
 fn digit_at(bytes: &[u8], i: usize) -> u8
     ensures { result ≡ get_or (in_digits bytes.now) i 0 }
 {
@@ -120,6 +124,7 @@ fn digit_at(bytes: &[u8], i: usize) -> u8
 }
 
 // Puts bytes in digits at the front of a buffer, as far as there is room, and answers how many digits those are.
+#[tactic(auto, using(crate::proofs::Hex::putting))]
 pub fn to_hex(bytes: &[u8], digits: &mut [u8]) -> usize
     ensures digits_after { digits.new ≡ over (in_digits bytes.now) digits.old }
     ensures value { result ≡ min (2 * length bytes.now) (length digits.old) }
@@ -146,6 +151,7 @@ fn put_second(bytes: &mut [u8], count: usize, byte: u8)
 
 // Puts the bytes that a text has in digits, whatever stands between these, at the front of a buffer, as far as there is room,
 // and answers how many digits the text has: whoever asks for a length sees one that has no room, or half a byte.
+#[tactic(auto, using(crate::proofs::Digits::reading), unfolding(crate::specs::Hex::digits_in, crate::specs::Hex::pairs))]
 pub fn from_hex(text: &[u8], bytes: &mut [u8]) -> usize
     ensures bytes_after { bytes.new ≡ over (pairs (digits_in text.now)) bytes.old }
     ensures value { result ≡ length (digits_in text.now) }

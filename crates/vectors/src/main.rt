@@ -38,10 +38,9 @@
 //     B byte                           target and authority of a slot byte
 #![tactic(auto)]
 
-ghost use Rattle.std.specs.Prelude.{◌≤◌};
-
+use arrayvec::ArrayVec;
 use basics::Refusal;
-use message::Contents;
+use message::{Contents, Update};
 use modes::Constant;
 use std::io::{Read, Stdout, Write};
 use std::{array, io};
@@ -57,44 +56,28 @@ const MESSAGE_ROOM: usize = 64;
 // How many bytes a block makes that is repeated, 4100 times.
 const REPEATED: usize = 65600;
 
+// Where a vector is written, and the text of its line after the letter: operands with a slash between two of them. An operand
+// that it hasn't is empty.
+#[derive(Clone, Copy)]
+struct Vector<'a> {
+    out: Stdout,
+    operands: &'a [u8],
+}
+
 // ---- operands
 
-// The bytes of an operand, as far as there is room for them.
-#[derive(Drop)]
-struct Buffer<const N: usize> {
-    bytes: [u8; N],
-    size: usize,
-    ghost within: { size ≤ N },
-}
-
-impl<const N: usize> Buffer<N> {
-    fn bytes(&self) -> &[u8] {
-        &self.bytes[..self.size]
-    }
-
-    fn bytes_mut(&mut self) -> &mut [u8] {
-        let size = self.size;
-        let bytes = &mut self.bytes;
-        &mut bytes[..size]
-    }
-}
-
-// The text of a line after its letter: operands with a slash between two of them. An operand that it hasn't is empty.
-#[derive(Clone, Copy)]
-struct Operands<'a>(&'a [u8]);
-
-impl<'a> Operands<'a> {
+impl<'a> Vector<'a> {
     fn text(self, n: usize) -> &'a [u8] {
-        self.0.split(|c| *c == b'/').nth(n).unwrap_or(&[])
+        self.operands.split(|c| *c == b'/').nth(n).unwrap_or(&[])
     }
 
-    fn buffer<const N: usize>(self, n: usize) -> Buffer<N> {
+    // The bytes of an operand, as far as there is room for them.
+    fn buffer<const N: usize>(self, n: usize) -> ArrayVec<u8, N> {
         let mut bytes = [0u8; N];
         let digits = text::from_hex(self.text(n), &mut bytes);
-        Buffer {
-            bytes,
-            size: (digits / 2).min(N),
-        }
+        let mut buffer = ArrayVec::from(bytes);
+        buffer.truncate(digits / 2);
+        buffer
     }
 
     // An operand that has 16 bytes, no more and no fewer.
@@ -106,20 +89,17 @@ impl<'a> Operands<'a> {
 
     // A number of up to 8 bytes, the most significant first.
     fn number(self, n: usize) -> u64 {
-        let bytes = self.buffer::<8>(n);
-        bytes
-            .bytes()
+        self.buffer::<8>(n)
             .iter()
             .fold(0, |value, byte| value << 8 ^ *byte as u64)
     }
 
     // The block that is operand 2, as many times as operand 3 says.
-    fn repeated(self) -> Option<Buffer<REPEATED>> {
+    fn repeated(self) -> Option<ArrayVec<u8, REPEATED>> {
         let block = self.block(2)?;
-        Some(Buffer {
-            bytes: array::from_fn(|i| block[i % 16]),
-            size: 16 * self.number(3).min(4100) as usize,
-        })
+        let mut text = ArrayVec::from(array::from_fn(|i| block[i % 16]));
+        text.truncate(16 * self.number(3).min(4100) as usize);
+        Some(text)
     }
 
     fn byte(self, n: usize) -> u8 {
@@ -133,61 +113,33 @@ impl<'a> Operands<'a> {
 
 // ---- writing
 
-// Up to sixteen bytes as a line.
-fn write_row(mut out: Stdout, row: &[u8]) -> io::Result<()> {
-    let mut line = [b'\n'; 33];
-    let n = text::to_hex(row, &mut line);
-    out.write_all(text::front(&line, n as u64 + 1))
-}
-
-fn write_bytes(out: Stdout, bytes: &[u8]) -> io::Result<()> {
-    for row in bytes.chunks(16) {
-        write_row(out, row)?;
+impl Vector<'_> {
+    // Up to sixteen bytes as a line.
+    fn write_row(mut self, row: &[u8]) -> io::Result<()> {
+        let mut line = [b'\n'; 33];
+        let n = text::to_hex(row, &mut line);
+        self.out.write_all(text::front(&line, n as u64 + 1))
     }
-    Ok(())
-}
 
-// The answer of a routine on lent buffers, and its buffer.
-fn write_outcome(out: Stdout, answer: Result<(), Refusal>, output: &[u8]) -> io::Result<()> {
-    write_bytes(out, &[basics::answer_of(answer)])?;
-    write_bytes(out, output)
-}
+    fn write_bytes(self, bytes: &[u8]) -> io::Result<()> {
+        for row in bytes.chunks(16) {
+            self.write_row(row)?;
+        }
+        Ok(())
+    }
 
-fn no_such_vector(mut out: Stdout) -> io::Result<()> {
-    writeln!(out, "no such vector")
+    // The answer of a routine on lent buffers, and its buffer.
+    fn write_outcome(self, answer: Result<(), Refusal>, output: &[u8]) -> io::Result<()> {
+        self.write_bytes(&[basics::answer_of(answer)])?;
+        self.write_bytes(output)
+    }
+
+    fn no_such_vector(mut self) -> io::Result<()> {
+        writeln!(self.out, "no such vector")
+    }
 }
 
 // ---- the routines on blocks
-
-fn schedule(out: Stdout, line: Operands) -> io::Result<()> {
-    let Some(key) = line.block(0) else {
-        return no_such_vector(out);
-    };
-    write_bytes(out, &aes::expand_key(key))
-}
-
-fn subkeys(out: Stdout, line: Operands) -> io::Result<()> {
-    let Some(key) = line.block(0) else {
-        return no_such_vector(out);
-    };
-    let w = aes::expand_key(key);
-    write_bytes(out, &modes::subkey_1(&w))?;
-    write_bytes(out, &modes::subkey_2(&w))
-}
-
-// What takes two blocks: enciphering, deciphering, and the extension of a seed.
-fn of_two_blocks<F: Fn([u8; 16], [u8; 16]) -> [u8; 16]>(
-    out: Stdout,
-    line: Operands,
-    routine: F,
-) -> io::Result<()>
-    requires { F.IsAlwaysCallable routine }
-{
-    let (Some(a), Some(b)) = (line.block(0), line.block(1)) else {
-        return no_such_vector(out);
-    };
-    write_bytes(out, &routine(a, b))
-}
 
 fn constant(number: u64) -> Option<Constant> {
     match number {
@@ -200,146 +152,116 @@ fn constant(number: u64) -> Option<Constant> {
     }
 }
 
-fn derived(out: Stdout, line: Operands) -> io::Result<()> {
-    let (Some(key), Some(name)) = (line.block(0), constant(line.number(1))) else {
-        return no_such_vector(out);
-    };
-    write_bytes(out, &modes::derive(key, name))
+impl Vector<'_> {
+    fn schedule(self) -> io::Result<()> {
+        let Some(key) = self.block(0) else {
+            return self.no_such_vector();
+        };
+        self.write_bytes(&aes::expand_key(key))
+    }
+
+    fn subkeys(self) -> io::Result<()> {
+        let Some(key) = self.block(0) else {
+            return self.no_such_vector();
+        };
+        let w = aes::expand_key(key);
+        self.write_bytes(&modes::subkey_1(&w))?;
+        self.write_bytes(&modes::subkey_2(&w))
+    }
+
+    // What takes two blocks: enciphering, deciphering, and the extension of a seed.
+    fn of_two_blocks<F: Fn([u8; 16], [u8; 16]) -> [u8; 16]>(self, routine: F) -> io::Result<()>
+        requires { F.IsAlwaysCallable routine }
+    {
+        let (Some(a), Some(b)) = (self.block(0), self.block(1)) else {
+            return self.no_such_vector();
+        };
+        self.write_bytes(&routine(a, b))
+    }
+
+    fn derived(self) -> io::Result<()> {
+        let (Some(key), Some(name)) = (self.block(0), constant(self.number(1))) else {
+            return self.no_such_vector();
+        };
+        self.write_bytes(&modes::derive(key, name))
+    }
 }
 
 // ---- the routines on lent buffers
 
-fn of_three_buffers<F: Fn(&[u8], &[u8], &mut [u8]) -> Result<(), Refusal>>(
-    out: Stdout,
-    line: Operands,
-    routine: F,
-) -> io::Result<()>
-    requires { F.IsAlwaysCallable routine }
-{
-    let a = line.buffer::<ROOM>(0);
-    let b = line.buffer::<ROOM>(1);
-    let mut output = line.buffer::<ROOM>(2);
-    let answer = routine(a.bytes(), b.bytes(), output.bytes_mut());
-    write_outcome(out, answer, output.bytes())
-}
+impl Vector<'_> {
+    fn of_three_buffers<F: Fn(&[u8], &[u8], &mut [u8]) -> Result<(), Refusal>>(
+        self,
+        routine: F,
+    ) -> io::Result<()>
+        requires { F.IsAlwaysCallable routine }
+    {
+        let a = self.buffer::<ROOM>(0);
+        let b = self.buffer::<ROOM>(1);
+        let mut output = self.buffer::<ROOM>(2);
+        let answer = routine(&a, &b, &mut output);
+        self.write_outcome(answer, &output)
+    }
 
-fn cbc<F: Fn(&[u8], &[u8], &[u8], &mut [u8]) -> Result<(), Refusal>>(
-    out: Stdout,
-    line: Operands,
-    routine: F,
-) -> io::Result<()>
-    requires { F.IsAlwaysCallable routine }
-{
-    let key = line.buffer::<ROOM>(0);
-    let iv = line.buffer::<ROOM>(1);
-    let input = line.buffer::<ROOM>(2);
-    let mut output = line.buffer::<ROOM>(3);
-    let answer = routine(key.bytes(), iv.bytes(), input.bytes(), output.bytes_mut());
-    write_outcome(out, answer, output.bytes())
-}
+    fn cbc<F: Fn(&[u8], &[u8], &[u8], &mut [u8]) -> Result<(), Refusal>>(
+        self,
+        routine: F,
+    ) -> io::Result<()>
+        requires { F.IsAlwaysCallable routine }
+    {
+        let key = self.buffer::<ROOM>(0);
+        let iv = self.buffer::<ROOM>(1);
+        let input = self.buffer::<ROOM>(2);
+        let mut output = self.buffer::<ROOM>(3);
+        let answer = routine(&key, &iv, &input, &mut output);
+        self.write_outcome(answer, &output)
+    }
 
-fn cbc_repeated(out: Stdout, line: Operands) -> io::Result<()> {
-    let (Some(input), Some(mut output)) = (line.repeated(), line.repeated()) else {
-        return no_such_vector(out);
-    };
-    let key = line.buffer::<ROOM>(0);
-    let iv = line.buffer::<ROOM>(1);
-    let answer = modes::cbc_encrypt(key.bytes(), iv.bytes(), input.bytes(), output.bytes_mut());
-    write_outcome(out, answer, text::last(output.bytes(), 16))
-}
+    fn cbc_repeated(self) -> io::Result<()> {
+        let (Some(input), Some(mut output)) = (self.repeated(), self.repeated()) else {
+            return self.no_such_vector();
+        };
+        let key = self.buffer::<ROOM>(0);
+        let iv = self.buffer::<ROOM>(1);
+        let answer = modes::cbc_encrypt(&key, &iv, &input, &mut output);
+        self.write_outcome(answer, text::last(&output, 16))
+    }
 
-// The key and the output are operands 0 and `last`, the message is lent.
-fn mac(out: Stdout, line: Operands, last: usize, message: &[u8]) -> io::Result<()> {
-    let key = line.buffer::<ROOM>(0);
-    let mut output = line.buffer::<ROOM>(last);
-    let answer = modes::cmac(key.bytes(), line.number(1), message, output.bytes_mut());
-    write_outcome(out, answer, output.bytes())
-}
+    // The key and the output are operands 0 and `last`, the message is lent.
+    fn mac(self, last: usize, message: &[u8]) -> io::Result<()> {
+        let key = self.buffer::<ROOM>(0);
+        let mut output = self.buffer::<ROOM>(last);
+        let answer = modes::cmac(&key, self.number(1), message, &mut output);
+        self.write_outcome(answer, &output)
+    }
 
-fn cmac(out: Stdout, line: Operands) -> io::Result<()> {
-    let message = line.buffer::<ROOM>(2);
-    mac(out, line, 3, message.bytes())
-}
+    fn cmac(self) -> io::Result<()> {
+        let message = self.buffer::<ROOM>(2);
+        self.mac(3, &message)
+    }
 
-fn cmac_repeated(out: Stdout, line: Operands) -> io::Result<()> {
-    let Some(message) = line.repeated() else {
-        return no_such_vector(out);
-    };
-    mac(out, line, 4, message.bytes())
+    fn cmac_repeated(self) -> io::Result<()> {
+        let Some(message) = self.repeated() else {
+            return self.no_such_vector();
+        };
+        self.mac(4, &message)
+    }
 }
 
 // ---- key messages
 
-// What goes into M1 to M3.
-#[derive(Drop)]
-struct Update {
-    uid: Buffer<MESSAGE_ROOM>,
-    target: u8,
-    authority: u8,
-    authkey: Buffer<MESSAGE_ROOM>,
-    counter: u32,
-    flags: u8,
-    key: Buffer<MESSAGE_ROOM>,
-}
-
-impl Update {
-    fn read(line: Operands) -> Update {
-        Update {
-            uid: line.buffer(0),
-            target: line.byte(1),
-            authority: line.byte(2),
-            authkey: line.buffer(3),
-            counter: line.word(4),
-            flags: line.byte(5),
-            key: line.buffer(6),
-        }
-    }
-}
-
-// The three forms of the writer, with the buffers for the messages lent.
-fn messages<F: Fn(&Update, &mut [u8], &mut [u8], &mut [u8]) -> Result<(), Refusal>>(
-    out: Stdout,
-    line: Operands,
-    writer: F,
-) -> io::Result<()>
-    requires { F.IsAlwaysCallable writer }
-{
-    let mut m1 = line.buffer::<MESSAGE_ROOM>(7);
-    let mut m2 = line.buffer::<MESSAGE_ROOM>(8);
-    let mut m3 = line.buffer::<MESSAGE_ROOM>(9);
-    let answer = writer(
-        &Update::read(line),
-        m1.bytes_mut(),
-        m2.bytes_mut(),
-        m3.bytes_mut(),
-    );
-    write_outcome(out, answer, m1.bytes())?;
-    write_bytes(out, m2.bytes())?;
-    write_bytes(out, m3.bytes())
-}
-
 fn full_form(u: &Update, m1: &mut [u8], m2: &mut [u8], m3: &mut [u8]) -> Result<(), Refusal> {
-    let update = message::Update {
-        uid: u.uid.bytes(),
-        target: u.target,
-        authority: u.authority,
-        authkey: u.authkey.bytes(),
-        counter: u.counter,
-        flags: u.flags,
-        key: u.key.bytes(),
-    };
-    update.write(m1, m2, m3)
+    u.write(m1, m2, m3)
 }
 
 fn short_form(u: &Update, m1: &mut [u8], m2: &mut [u8], m3: &mut [u8]) -> Result<(), Refusal> {
-    let (uid, authkey, key) = (u.uid.bytes(), u.authkey.bytes(), u.key.bytes());
     message::write_key_short(
-        uid,
+        u.uid,
         u.target,
         u.authority,
-        authkey,
+        u.authkey,
         u.counter,
-        key,
+        u.key,
         m1,
         m2,
         m3,
@@ -347,105 +269,133 @@ fn short_form(u: &Update, m1: &mut [u8], m2: &mut [u8], m3: &mut [u8]) -> Result
 }
 
 fn fleet_sheet(u: &Update, m1: &mut [u8], m2: &mut [u8], m3: &mut [u8]) -> Result<(), Refusal> {
-    let (authkey, key) = (u.authkey.bytes(), u.key.bytes());
-    message::fleet_sheet(u.target, u.authority, authkey, u.counter, key, m1, m2, m3)
+    message::fleet_sheet(
+        u.target,
+        u.authority,
+        u.authkey,
+        u.counter,
+        u.key,
+        m1,
+        m2,
+        m3,
+    )
 }
 
-fn proof(out: Stdout, line: Operands) -> io::Result<()> {
-    let uid = line.buffer::<MESSAGE_ROOM>(0);
-    let key = line.buffer::<MESSAGE_ROOM>(4);
-    let mut m4 = line.buffer::<MESSAGE_ROOM>(5);
-    let mut m5 = line.buffer::<MESSAGE_ROOM>(6);
-    let answer = message::write_proof(
-        uid.bytes(),
-        line.byte(1),
-        line.byte(2),
-        line.word(3),
-        key.bytes(),
-        m4.bytes_mut(),
-        m5.bytes_mut(),
-    );
-    write_outcome(out, answer, m4.bytes())?;
-    write_bytes(out, m5.bytes())
-}
+impl Vector<'_> {
+    // The three forms of the writer, with the buffers for the messages lent.
+    fn messages<F: Fn(&Update, &mut [u8], &mut [u8], &mut [u8]) -> Result<(), Refusal>>(
+        self,
+        writer: F,
+    ) -> io::Result<()>
+        requires { F.IsAlwaysCallable writer }
+    {
+        let uid = self.buffer::<MESSAGE_ROOM>(0);
+        let authkey = self.buffer::<MESSAGE_ROOM>(3);
+        let key = self.buffer::<MESSAGE_ROOM>(6);
+        let mut m1 = self.buffer::<MESSAGE_ROOM>(7);
+        let mut m2 = self.buffer::<MESSAGE_ROOM>(8);
+        let mut m3 = self.buffer::<MESSAGE_ROOM>(9);
+        let update = Update {
+            uid: &uid,
+            target: self.byte(1),
+            authority: self.byte(2),
+            authkey: &authkey,
+            counter: self.word(4),
+            flags: self.byte(5),
+            key: &key,
+        };
+        let answer = writer(&update, &mut m1, &mut m2, &mut m3);
+        self.write_outcome(answer, &m1)?;
+        self.write_bytes(&m2)?;
+        self.write_bytes(&m3)
+    }
 
-fn open(out: Stdout, line: Operands) -> io::Result<()> {
-    let authkey = line.buffer::<MESSAGE_ROOM>(0);
-    let m1 = line.buffer::<MESSAGE_ROOM>(1);
-    let m2 = line.buffer::<MESSAGE_ROOM>(2);
-    let m3 = line.buffer::<MESSAGE_ROOM>(3);
-    let opened = message::open(authkey.bytes(), m1.bytes(), m2.bytes(), m3.bytes());
-    write_bytes(out, &[opened.is_some() as u8])?;
-    // What M3 does not vouch for is written as zeros.
-    let contents = opened.unwrap_or(Contents {
-        counter: 0,
-        flags: 0,
-        zerofill: false,
-        key: [0; 16],
-    });
-    write_bytes(out, &contents.counter.to_be_bytes())?;
-    write_bytes(out, &[contents.flags, contents.zerofill as u8])?;
-    write_bytes(out, &contents.key)
-}
+    fn proof(self) -> io::Result<()> {
+        let uid = self.buffer::<MESSAGE_ROOM>(0);
+        let key = self.buffer::<MESSAGE_ROOM>(4);
+        let mut m4 = self.buffer::<MESSAGE_ROOM>(5);
+        let mut m5 = self.buffer::<MESSAGE_ROOM>(6);
+        let answer = message::write_proof(
+            &uid,
+            self.byte(1),
+            self.byte(2),
+            self.word(3),
+            &key,
+            &mut m4,
+            &mut m5,
+        );
+        self.write_outcome(answer, &m4)?;
+        self.write_bytes(&m5)
+    }
 
-fn slots(out: Stdout, line: Operands) -> io::Result<()> {
-    let target = line.byte(0);
-    write_bytes(
-        out,
-        &[
+    fn open(self) -> io::Result<()> {
+        let authkey = self.buffer::<MESSAGE_ROOM>(0);
+        let m1 = self.buffer::<MESSAGE_ROOM>(1);
+        let m2 = self.buffer::<MESSAGE_ROOM>(2);
+        let m3 = self.buffer::<MESSAGE_ROOM>(3);
+        let opened = message::open(&authkey, &m1, &m2, &m3);
+        self.write_bytes(&[opened.is_some() as u8])?;
+        // What M3 does not vouch for is written as zeros.
+        let contents = opened.unwrap_or_default();
+        self.write_bytes(&contents.counter.to_be_bytes())?;
+        self.write_bytes(&[contents.flags, contents.zerofill as u8])?;
+        self.write_bytes(&contents.key)
+    }
+
+    fn slots(self) -> io::Result<()> {
+        let target = self.byte(0);
+        self.write_bytes(&[
+            // A kind is written by its place among the kinds.
             message::Kind::from(target) as u8,
             message::has_role(target, message::Role::Cipher) as u8,
             message::has_role(target, message::Role::GenerateMac) as u8,
             message::has_role(target, message::Role::VerifyMac) as u8,
             message::flags_kept(target),
             (message::counter_kept(target, 1) % 256) as u8,
-            message::is_allowed(target, line.byte(1)) as u8,
-        ],
-    )
-}
+            message::is_allowed(target, self.byte(1)) as u8,
+        ])
+    }
 
-fn slot_byte(out: Stdout, line: Operands) -> io::Result<()> {
-    let byte = line.byte(0);
-    write_bytes(
-        out,
-        &[message::target_of(byte), message::authority_of(byte)],
-    )
+    fn slot_byte(self) -> io::Result<()> {
+        let byte = self.byte(0);
+        self.write_bytes(&[message::target_of(byte), message::authority_of(byte)])
+    }
 }
 
 // ---- lines
 
 fn run_line(mut out: Stdout, line: &[u8]) -> io::Result<()> {
-    let (routine, operands) = match line {
+    let (routine, vector) = match line {
         [] | [b'#', ..] => {
             out.write_all(line)?;
             return writeln!(out);
         }
-        [routine, operands @ ..] => (*routine, Operands(operands)),
+        [routine, operands @ ..] => (*routine, Vector { out, operands }),
     };
     match routine {
-        b'K' => schedule(out, operands),
-        b'S' => subkeys(out, operands),
-        b'N' => derived(out, operands),
-        b'E' => of_two_blocks(out, operands, aes::encrypt),
-        b'D' => of_two_blocks(out, operands, aes::decrypt),
-        b'X' => of_two_blocks(out, operands, modes::extend),
-        b'e' => of_three_buffers(out, operands, modes::ecb_encrypt),
-        b'd' => of_three_buffers(out, operands, modes::ecb_decrypt),
-        b'H' => of_three_buffers(out, operands, modes::compress),
-        b'F' => of_three_buffers(out, operands, modes::kdf),
-        b'C' => cbc(out, operands, modes::cbc_encrypt),
-        b'c' => cbc(out, operands, modes::cbc_decrypt),
-        b'L' => cbc_repeated(out, operands),
-        b'M' => cmac(out, operands),
-        b'R' => cmac_repeated(out, operands),
-        b'W' => messages(out, operands, full_form),
-        b'w' => messages(out, operands, short_form),
-        b'f' => messages(out, operands, fleet_sheet),
-        b'A' => proof(out, operands),
-        b'O' => open(out, operands),
-        b'P' => slots(out, operands),
-        b'B' => slot_byte(out, operands),
-        _ => no_such_vector(out),
+        b'K' => vector.schedule(),
+        b'S' => vector.subkeys(),
+        b'N' => vector.derived(),
+        b'E' => vector.of_two_blocks(aes::encrypt),
+        b'D' => vector.of_two_blocks(aes::decrypt),
+        b'X' => vector.of_two_blocks(modes::extend),
+        b'e' => vector.of_three_buffers(modes::ecb_encrypt),
+        b'd' => vector.of_three_buffers(modes::ecb_decrypt),
+        b'H' => vector.of_three_buffers(modes::compress),
+        b'F' => vector.of_three_buffers(modes::kdf),
+        b'C' => vector.cbc(modes::cbc_encrypt),
+        b'c' => vector.cbc(modes::cbc_decrypt),
+        b'L' => vector.cbc_repeated(),
+        b'M' => vector.cmac(),
+        b'R' => vector.cmac_repeated(),
+        b'W' => vector.messages(full_form),
+        b'w' => vector.messages(short_form),
+        b'f' => vector.messages(fleet_sheet),
+        b'A' => vector.proof(),
+        b'O' => vector.open(),
+        b'P' => vector.slots(),
+        b'B' => vector.slot_byte(),
+        _ => vector.no_such_vector(),
     }
 }
 

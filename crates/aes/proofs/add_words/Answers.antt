@@ -9,5 +9,4 @@ use Rattle.aes.proofs.add_words.Goals as goal
 
 pub returns : goal.returns
 unfolding tabulate ◌xor◌
-returns c = let a = c.args in
-    made _ _ (λ k. byte a.a k xor byte a.b k) 4 (λ i y q below called. search rules) c.from_fn.result c.from_fn.ensures.items
+returns c = made _ _ (λ k. byte c.args.a k xor byte c.args.b k) 4 (λ i y q below called. search rules) _ c.from_fn.ensures.items

@@ -14,5 +14,4 @@ pub returns : goal.returns
 returns c = λ f whole.
     let a = c.args in
     let small : (k : ℕ) → Fits w8 (byte a.s k) = λ k. search rules in
-    made _ _ (λ k. byte a.boxes.now (byte a.s k)) 16 (λ i y q below called. search rules) c.from_fn.result c.from_fn.ensures.items
-    ∙ by_table f a.boxes.now a.s whole (λ k. (small k).fits)
+    made _ _ _ _ (λ i y q below called. search rules) _ c.from_fn.ensures.items ∙ by_table f a.boxes.now a.s whole (λ k. (small k).fits)

@@ -17,6 +17,6 @@ pub returns : goal.returns
 unfolding tabulate
 returns c = let a = c.args in
     let small : (k : ℕ) → Fits w8 (byte a.a k) = λ k. search rules in
-    let entry : (k : ℕ) → byte a.boxes.now (byte a.a k) ≡ sbox (byte a.a k) = λ k. looked_up sbox a.boxes.now (byte a.a k) _ c.requires (small k).fits refl in
-    made _ _ (λ j. byte a.boxes.now (byte a.a ((j + 1) % 4))) 4 (λ i y q below called. search rules) c.from_fn.result c.from_fn.ensures.items
+    let entry : (k : ℕ) → byte c.sbox_table-boxes.result.now (byte a.a k) ≡ sbox (byte a.a k) = λ k. looked_up sbox c.sbox_table-boxes.result.now (byte a.a k) _ c.sbox_table-boxes.ensures (small k).fits refl in
+    made _ _ (λ j. byte c.sbox_table-boxes.result.now (byte a.a ((j + 1) % 4))) 4 (λ i y q below called. search rules) c.from_fn.result c.from_fn.ensures.items
     ∙ (λ i. entry 1 i ∷ entry 2 i ∷ entry 3 i ∷ entry 0 i ∷ [])

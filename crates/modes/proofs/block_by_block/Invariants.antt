@@ -7,4 +7,4 @@ use Rattle.modes.proofs.block_by_block.Given as goal
 
 abbrev pub invariant-loop-i : goal.invariant-loop-i
 invariant-loop-i g l =
-    Runs (λ c x r. (p : Bor (List ℕ)) × (p.now ≡ l.w) × goal.F-post g l.step p c x r) l.input l.initial.carried l.carried l.output l.i
+    Runs (λ c x r. (p : Bor (List ℕ)) × (p.now ≡ l.w) × goal.F-post g l.step p c x r) l.whole l.initial.carried l.carried l.output l.i

@@ -1,37 +1,20 @@
--- `device::Device::slots_fine` meets its contract: the loop tests slot by slot.
+-- `device::Device::slots_fine` meets its contract.
 -- Assumes nothing.
+use mathlib.Core.Path.{◌∙◌}
 use Prim.Native.Nat.{ℕ}
-use Rattle.aes.specs.State.{byte}
+use native.Mathlib.Omega.{arith}
+use borrow.Author.Rules.{rules}
+use borrow.Author.Tests.{tests}
+use Rattle.std.proofs.lemmas.Iterator.{YieldsList-from_range}
+use Rattle.std.proofs.lemmas.Iterator.Search.{all_from_yields_List}
+use Rattle.laws.proofs.AllOf.{all_in_range}
 use Rattle.device.specs.Made.{slot_fine, slots_fine}
 use Rattle.device.specs.Record.{slot_at}
-use Rattle.laws.proofs.Test.{all_none, all_more, all_made}
-use borrow.Author.Rules.{rules}
-use mir.Syntax.{w8}
-use mir.Val.{Fits}
 use Rattle.device.proofs.Device.slots_fine.Goals as goal
-
-pub loop-slot-init : goal.loop-slot-init
-loop-slot-init c = all_none _
-
-pub loop-slot-preserved : goal.loop-slot-preserved
-loop-slot-preserved c = let l = c.loop-slot in
-    all_more (λ number. slot_fine number (slot_at c.args.self number)) l.slot l.fine _ l.invariant (search rules)
 
 pub returns-clause-value : goal.returns-clause-value
 unfolding slots_fine
-returns-clause-value c = let l = c.loop-slot in
-    all_made _ l.slot 15 l.fine (search rules) l.invariant
-
-pub returns-clause-shaped : goal.returns-clause-shaped
-returns-clause-shaped c =
-    let d = c.args.self in
-    let small : (k : ℕ) → Fits w8 (byte d.keys k) = λ k. search rules in
-    record {
-      all_keys = search rules;
-      key_bytes = λ k. (small k).fits;
-      all_counters = search rules;
-      all_flags = search rules;
-      all_empty = search rules;
-      uid_long = search rules;
-      all_marks = search rules;
-    }
+returns-clause-value c =
+    let fine = λ (number : ℕ). slot_fine number (slot_at c.args.self number) in
+    all_from_yields_List fine _ _ _ c.all.ensures.ran (YieldsList-from_range 0 15 15 (search rules) (omega arith)) (λ x b q k. search (rules, tests))
+    ∙ all_in_range fine 15
