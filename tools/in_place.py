@@ -13,7 +13,8 @@ The body of these routines is one call of a command that takes the record by val
 
 with every other parameter in its order, a wide one as a byte, `to_byte(slot)`. So what their promises must exclude can be read off the source. This program finds the crates
 that have such routines, and makes two wrong programs of each: a function in the place of the command that answers 0 and leaves all as it
-was, and one that refuses all. The twin of both calls the command, under the routine's own promise.
+was, and one that refuses all. The twin of both calls the command, under the routine's own promise. An export that only hands all on to a
+routine of another crate gets the same, with a function in the place of that routine, which takes the record in place too.
 """
 import pathlib
 import re
@@ -22,10 +23,12 @@ CRATES = pathlib.Path(__file__).resolve().parents[1] / "crates"
 HEAD = r'pub (?:extern "C" )?fn (?P<name>\w+)\(\s*(?P<record>\w+): &mut (?P<struct>[A-Z]\w*)'
 # A routine's head and promise, and its body: what is written before the call, where what comes of the command goes, the command with
 # what it is given, the conversion of a yes or no, and where that goes.
+PROMISE = (r"(?P<head>(?:#\[unsafe\(no_mangle\)\]\n)?" + HEAD
+           + r",?(?P<parameters>[^)]*)\) -> u8\s+ensures \{ (?P<promise>.*) \}\s+\{)\s+")
 ROUTINE = re.compile(
-    r"(?P<head>(?:#\[unsafe\(no_mangle\)\]\n)?" + HEAD + r",?(?P<parameters>[^)]*)\) -> u8\s+ensures \{ (?P<promise>.*) \}\s+\{)"
-    r"\s+(?://.*\s+)*(?:(?P<before>\*\w+ = [^;]*;)\s+)?(?P<use>store|answer_of|settle)\(\s*(?:(?P<place>\w+),\s*)?"
-    r"(?P<call>(?P<command>[\w:]+)\((?P<passed>(?:[^()]|\([^()]*\))*)\))(?P<conversion>\.map\(\s*u8::from,?\s*\))?,?\s*(?P<through>\w+)?,?\s*\)\s+\}")
+    PROMISE + r"(?://.*\s+)*(?:(?P<before>\*\w+ = [^;]*;)\s+)?(?P<body>(?P<use>store|answer_of|settle)\(\s*(?:(?P<place>\w+),\s*)?"
+    r"(?P<call>(?P<command>[\w:]+)\((?P<passed>(?:[^()]|\([^()]*\))*)\))(?P<conversion>\.map\(\s*u8::from,?\s*\))?,?\s*(?P<through>\w+)?,?\s*\))\s+\}")
+HANDED_ON = re.compile(PROMISE + r"(?P<call>\w+::\w+\((?P<passed>[^()]*)\))\s+\}")
 
 
 def listed(text):
@@ -38,10 +41,12 @@ HOMES = {"answer_of": "Rattle.basics.specs.Answers", "result_unwrap_or": "Rattle
 
 
 class Routine:
-    def __init__(self, crate, imported, head, name, record, struct, parameters, promise, before, use, place, call, command, passed, conversion,
-                 through):
+    """One whose command takes the record by value."""
+
+    def __init__(self, crate, imported, head, name, record, struct, parameters, promise, before, body, use, place, call, command, passed,
+                 conversion, through):
         self.crate, self.imported, self.head, self.name = crate, imported, head, name
-        self.record, self.struct, self.promise = record, struct, promise
+        self.record, self.struct, self.promise, self.body = record, struct, promise, body
         self.use, self.call, self.command, self.is_verdict, self.before = use, call, command, conversion is not None, before
         self.changes, self.is_blanked = place == record, before == f"*{record} = {struct}::blank();"
         # a parameter through which a number goes out
@@ -98,7 +103,7 @@ class Routine:
         """Crate, routine, name, reason, and the changes of the source: a text that stands there once, its wrong replacement and its
         right one."""
         record = "before" if self.is_blanked else f"*{self.record}"
-        calls = [(self.call, f"stand_in({', '.join([record, *self.passed])})", None)]
+        calls = [(self.body, self.body.replace(self.call, f"stand_in({', '.join([record, *self.passed])})"), None)]
         if self.is_blanked:
             calls.append((self.before, f"let before = *{self.record}; {self.before}", None))
         right = self.stand_in(self.said(), f"{self.command}({', '.join([*([] if self.is_anew else [self.record]), *self.parameters])})")
@@ -108,12 +113,44 @@ class Routine:
             yield self.crate, self.name, f"{self.name}_{does}", why, [*calls, put]
 
 
+class Export:
+    """One that hands all on to a routine of another crate."""
+
+    def __init__(self, crate, head, name, record, struct, parameters, promise, call, passed):
+        self.crate, self.head, self.name, self.record, self.struct = crate, head, name, record, struct
+        self.promise, self.call, self.passed = promise, call, passed
+        self.parameters = dict(item.split(": ") for item in listed(parameters))
+        assert listed(passed) == [record, *self.parameters], f"{crate}::{name} passes something else on"
+
+    def stand_in(self, promise, body):
+        """a function in the place of the routine, with its parameters"""
+        taken = "".join(f", {name}: {kind}" for name, kind in self.parameters.items())
+        return f"fn stand_in({self.record}: &mut {self.struct}{taken}) -> u8 ensures {{ {promise} }} {{ {body} }}\n\n"
+
+    def idle(self, answer):
+        """one that gives this answer and leaves all as it was, and a byte that goes out 0"""
+        says = self.promise.partition(" ≡ ")[0]
+        left = re.sub(r"(?<![\w.])result(?![\w.])", str(answer), says).replace(f"{self.record}.new", f"{self.record}.old")
+        out = [name for name, kind in self.parameters.items() if kind == "&mut u8"]
+        for name in self.parameters:
+            left = left.replace(f"{name}.new", "0" if name in out else f"{name}.old")
+        return self.stand_in(f"{says} ≡ {left}", "".join(f"*{name} = 0; " for name in out) + str(answer))
+
+    def wrong_programs(self):
+        """as those of a routine"""
+        calls = (self.call, f"stand_in({self.passed})", None)
+        right = self.stand_in(self.promise, self.call)
+        for does, answer, why in (("only_answers", 0, "answers 0 and leaves all as it was"), ("refuses_all", 12, "refuses all")):
+            yield self.crate, self.name, f"{self.name}_{does}", why, [calls, (self.head, self.idle(answer) + self.head, right + self.head)]
+
+
 def wrong_programs():
     for folder in sorted(CRATES.glob("*/src")):
         crate = folder.parent.name
         text = "\n".join(file.read_text() for file in sorted(folder.glob("**/*.rt")))
         imported = {name for names in re.findall(r"^ghost use .*\{(.*)\};$", text, re.M) for name in names.split(", ")}
         found = [Routine(crate, imported, **parts.groupdict()) for parts in ROUTINE.finditer(text)]
+        found += [Export(crate, **parts.groupdict()) for parts in HANDED_ON.finditer(text)]
         assert len(found) == len(re.findall(HEAD, text)), f"a routine of {crate} has another body"
         for routine in found:
             yield from routine.wrong_programs()

@@ -55,6 +55,7 @@
 //                                          SECURE_BOOT, no BOOT_INIT, no BOOT_FINISHED, BOOT_OK; the last two have no meaning yet
 #![tactic(auto)]
 
+use arrayvec::ArrayVec;
 use basics::Refusal;
 use device::Device;
 use garage::Book;
@@ -63,7 +64,7 @@ use std::io;
 use std::io::{Read, Stdout, Write};
 
 // How much of the input is read.
-const MOST: u64 = 65536;
+const MOST: usize = 65536;
 
 // SECRET_KEY, seed and entropy are those of AUTOSAR TR 948, 4.13.2.6 and 4.13.2.9. The bytes after the right length are there
 // for wrong ones.
@@ -211,7 +212,7 @@ fn write_kept(mut out: Stdout, kept: bool) -> io::Result<()> {
 
 fn slot_row(device: Device, slot: u8) -> [u8; 16] {
     let mut row = [0u8; 16];
-    row[..4].copy_from_slice(&device.counter_at(slot).to_be_bytes());
+    row[..4].copy_from_slice(&text::bytes_of(device.counter_at(slot)));
     row[4] = device.flags_at(slot);
     row[5] = basics::byte_at(&device.empty, slot as usize);
     row
@@ -818,7 +819,7 @@ fn run(out: Stdout, lines: &[u8]) -> io::Result<()> {
 }
 
 fn main(rt: HostRuntime) -> io::Result<()> {
-    let mut input = Vec::new(rt.alloc());
-    rt.stdin().take(MOST).read_to_end(&mut input)?;
+    let mut input = ArrayVec::<u8, MOST>::new();
+    io::copy(&mut rt.stdin().take(MOST as u64), &mut input)?;
     run(rt.stdout(), &input)
 }

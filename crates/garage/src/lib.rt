@@ -1,5 +1,5 @@
 // The foreman's book about one bus: opened with what is known of the bus, it writes the key messages and judges the proofs that
-// come back. `include/garage.h` declares what C calls; crate `garage_c` has those calls.
+// come back. The three calls take the book by value, and again in place; crate `garage_c` hands the latter to C.
 //
 // A book is plain data that anyone could have filled, so nothing in it is believed before `is_open`. Numbers come in as wide as C
 // has them, and one that is too wide is the largest of its place and never its last digits: the promises are of the number as it
@@ -21,7 +21,7 @@ ghost use Rattle.garage.specs.Open.{waiting_fine, line_fine, lines_fine, is_open
 ghost use Rattle.garage.specs.Outcome.{outcome};
 ghost use Rattle.garage.specs.Rules.{next_counter, secret_of, pair_answer};
 
-use basics::{OFF, ON, Refusal, to_byte};
+use basics::{OFF, ON, Refusal, store, to_byte};
 use message::{MAX_COUNTER, Update};
 use std::array;
 
@@ -451,4 +451,46 @@ pub fn judge(mut book: Book, target: u32, m4: &[u8], m5: &[u8]) -> Result<Option
     }
     book.take(slot);
     Ok(Some(book))
+}
+
+// ---- the same with the book in place
+
+// Stores what a judgement hands back, and answers: a yes brings the book after it, and a no or a refusal leaves the book.
+fn settle(book: &mut Book, reply: Result<Option<Book>, Refusal>, verdict: &mut u8) -> u8
+    ensures { outcome result book.new verdict.new [] ≡ judged book.old reply }
+{
+    *verdict = matches!(reply, Ok(Some(_))) as u8;
+    store(book, reply.map(|taken| taken.unwrap_or(*book)))
+}
+
+pub fn garage_open(book: &mut Book, uid: &[u8], keys: &[u8], held: &[u8], counters: &[u32]) -> u8
+    ensures { outcome result book.new 0 [] ≡ opening uid.now keys.now held.now counters.now }
+{
+    // What the record held before counts for nothing.
+    *book = Book::blank();
+    store(book, open(uid, keys, held, counters))
+}
+
+pub fn garage_write(
+    book: &mut Book,
+    target: u32,
+    authority: u32,
+    flags: u32,
+    newkey: &[u8],
+    m1: &mut [u8],
+    m2: &mut [u8],
+    m3: &mut [u8],
+) -> u8
+    ensures { outcome result book.new 0 (m1.new ∷ m2.new ∷ m3.new ∷ []) ≡ writing book.old target authority flags newkey.now m1.old m2.old m3.old }
+{
+    store(
+        book,
+        write(*book, target, authority, flags, newkey, m1, m2, m3),
+    )
+}
+
+pub fn garage_judge(book: &mut Book, target: u32, m4: &[u8], m5: &[u8], verdict: &mut u8) -> u8
+    ensures { outcome result book.new verdict.new [] ≡ judging book.old target m4.now m5.now }
+{
+    settle(book, judge(*book, target, m4, m5), verdict)
 }

@@ -1,21 +1,12 @@
-// What C calls of the foreman's book: the three calls of `garage` in place, with their promises. `include/garage.h` declares them.
+// What C calls of the foreman's book: the three calls in place of `garage`, with their promises. `include/garage.h` declares them.
 #![tactic(auto)]
 
 ghost use Rattle.std.specs.Prelude.{◌≡◌, ◌∷◌, []};
-ghost use Rattle.garage.specs.Calls.{writing, judging, judged};
+ghost use Rattle.garage.specs.Calls.{writing, judging};
 ghost use Rattle.garage.specs.Open.{opening};
 ghost use Rattle.garage.specs.Outcome.{outcome};
 
-use basics::{Refusal, store};
 use garage::Book;
-
-// Stores what a judgement hands back, and answers: a yes brings the book after it, and a no or a refusal leaves the book.
-fn settle(book: &mut Book, reply: Result<Option<Book>, Refusal>, verdict: &mut u8) -> u8
-    ensures { outcome result book.new verdict.new [] ≡ judged book.old reply }
-{
-    *verdict = matches!(reply, Ok(Some(_))) as u8;
-    store(book, reply.map(|taken| taken.unwrap_or(*book)))
-}
 
 #[unsafe(no_mangle)]
 pub extern "C" fn garage_open(
@@ -27,9 +18,7 @@ pub extern "C" fn garage_open(
 ) -> u8
     ensures { outcome result book.new 0 [] ≡ opening uid.now keys.now held.now counters.now }
 {
-    // What the record held before counts for nothing.
-    *book = Book::blank();
-    store(book, garage::open(uid, keys, held, counters))
+    garage::garage_open(book, uid, keys, held, counters)
 }
 
 #[unsafe(no_mangle)]
@@ -45,10 +34,7 @@ pub extern "C" fn garage_write(
 ) -> u8
     ensures { outcome result book.new 0 (m1.new ∷ m2.new ∷ m3.new ∷ []) ≡ writing book.old target authority flags newkey.now m1.old m2.old m3.old }
 {
-    store(
-        book,
-        garage::write(*book, target, authority, flags, newkey, m1, m2, m3),
-    )
+    garage::garage_write(book, target, authority, flags, newkey, m1, m2, m3)
 }
 
 #[unsafe(no_mangle)]
@@ -61,5 +47,5 @@ pub extern "C" fn garage_judge(
 ) -> u8
     ensures { outcome result book.new verdict.new [] ≡ judging book.old target m4.now m5.now }
 {
-    settle(book, garage::judge(*book, target, m4, m5), verdict)
+    garage::garage_judge(book, target, m4, m5, verdict)
 }

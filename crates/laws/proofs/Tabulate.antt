@@ -1,11 +1,13 @@
--- A list given by a rule: its length and its elements.
+-- A list given by a rule: its length, its elements, and a loop that fills an array with it, from the front. Such a loop keeps
+-- `take i t ≡ tabulate i rule`: `fill` is its turn and `filled` its end.
 -- Assumes nothing.
-use mathlib.Core.Path.{◌≡◌, refl, sym, ap, ap₂, ◌∙◌}
-use mathlib.Core.List.{List, [], ◌∷◌}
+use mathlib.Core.Path.{◌≡◌, refl, sym, ap, ap₂, ◌∙◌, subst}
+use mathlib.Core.List.{List, [], ◌∷◌, ◌++◌}
 use Prim.Native.Nat.{ℕ, zero, suc, ◌+◌, ◌≤◌, ◌<◌}
 use native.Mathlib.Omega.{arith}
-use lib.ListN.{get_or, take, drop, length, length-drop}
-use lib.Seq.{length-take-le, get_or-take, get_or-drop}
+use native.Mathlib.Numerals.{add-one}
+use lib.ListN.{get_or, take, drop, set, length, length-drop, length-set}
+use lib.Seq.{take-suc-set, take_all, length-take-le, get_or-take, get_or-drop}
 use Rattle.laws.specs.Tabulate.{tabulate}
 
 pub length_tabulate : (n : ℕ) (f : ℕ → ℕ) → length (tabulate n f) ≡ n
@@ -47,3 +49,25 @@ pub tabulate_part : (n : ℕ) (l : List ℕ) (at : ℕ) → at + n ≤ length l 
 tabulate_part n l at room =
     tabulate_same n _ _ (λ k h. sym (get_or-take n (drop at l) k 0 h ∙ get_or-drop at l k 0))
     ∙ tabulate_own n (take n (drop at l)) (length-take-le n (drop at l) (omega (arith, length-drop at l)))
+
+pub tabulate_last : (n : ℕ) (f : ℕ → ℕ) → tabulate (suc n) f ≡ tabulate n f ++ (f n ∷ [])
+unfolding tabulate
+tabulate_last zero f = refl
+tabulate_last (suc n) f = ap (λ (l : List ℕ). f 0 ∷ l) (tabulate_last n (λ k. f (suc k)))
+
+-- a turn of the loop `t[i] = v; i += 1`, with `v` what the rule says
+pub fill : (f : ℕ → ℕ) (t : List ℕ) (i v : ℕ) → i < length t → v ≡ f i → take i t ≡ tabulate i f
+    → take (i + 1) (set t i v) ≡ tabulate (i + 1) f
+fill f t i v h e inv =
+    rw (add-one i)
+    (take-suc-set t i v h ∙ ap₂ (λ (l : List ℕ) (x : ℕ). l ++ (x ∷ [])) inv e ∙ sym (tabulate_last i f))
+
+-- the loop at its end
+pub filled : (f : ℕ → ℕ) (t : List ℕ) (i n : ℕ) → length t ≡ n → i ≡ n → take i t ≡ tabulate i f → t ≡ tabulate n f
+filled f t i n h k inv = sym (take_all n t (omega arith)) ∙ subst (λ (m : ℕ). take m t ≡ tabulate m f) k inv
+
+-- the last element stored after the loop
+pub filled_last : (f : ℕ → ℕ) (t : List ℕ) (i n v : ℕ) → length t ≡ suc n → i ≡ n → v ≡ f n → take i t ≡ tabulate i f → set t n v ≡ tabulate (suc n) f
+filled_last f t i n v h k e inv =
+    filled f (set t n v) (n + 1) (suc n) (length-set t n v ∙ h) (add-one n)
+    (fill f t n v (omega arith) e (subst (λ (m : ℕ). take m t ≡ tabulate m f) k inv))

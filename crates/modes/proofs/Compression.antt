@@ -22,12 +22,12 @@ pub carried_on : (n : ℕ) (out s t : List ℕ) → length s ≡ 16 * n → comp
 unfolding compress_from
 carried_on n out s t h = ap (foldl compressed out) (blocks_append n s t h) ∙ foldl-append compressed out (blocks s) (blocks t)
 
-one_block : (out x : List ℕ) → length x ≡ 16 → compress_from out x ≡ compressed out x
+pub one_block : (out x : List ℕ) → length x ≡ 16 → compress_from out x ≡ compressed out x
 unfolding compress_from
 one_block out x h = ap (foldl compressed out) (blocks_one x h)
 
 -- a block more
-and_a_block : (n : ℕ) (out s x : List ℕ) → length s ≡ 16 * n → length x ≡ 16 → compress_from out (s ++ x) ≡ compressed (compress_from out s) x
+pub and_a_block : (n : ℕ) (out s x : List ℕ) → length s ≡ 16 * n → length x ≡ 16 → compress_from out (s ++ x) ≡ compressed (compress_from out s) x
 and_a_block n out s x hs hx = carried_on n out s x hs ∙ one_block (compress_from out s) x hx
 
 -- two blocks, and three

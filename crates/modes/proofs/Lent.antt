@@ -23,9 +23,22 @@ cmac_facts key bits message output h =
     (eqb-true _ _ a.0, leb-true _ _ b.0, eqb-true _ _ c.0, eqb-true _ _ c.1)
 
 -- ---- the two outcomes
+pub answer_refused : (right : Bool) (result before : List ℕ) → right ≡ false → general_error ≡ (outcome right result before).answer
+unfolding outcome
+answer_refused right result before e = rw e
+
+pub output_refused : (right : Bool) (result before : List ℕ) → right ≡ false → before ≡ (outcome right result before).output
+unfolding outcome
+output_refused right result before e = rw e
+
 pub answer_done : (right : Bool) (result before : List ℕ) → right ≡ true → no_error ≡ (outcome right result before).answer
 unfolding outcome
 answer_done right result before e = rw e
+
+pub output_done : (right : Bool) (after result before : List ℕ) → right ≡ true → after ≡ result
+    → after ≡ (outcome right result before).output
+unfolding outcome
+output_done right after result before e h = rw e h
 
 -- the output of one that is done
 pub succeeded : (right : Bool) (result before : List ℕ) → right ≡ true → (outcome right result before).output ≡ result

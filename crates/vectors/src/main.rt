@@ -46,7 +46,7 @@ use std::io::{Read, Stdout, Write};
 use std::{array, io};
 
 // How much of the input is read.
-const MOST: u64 = 65536;
+const MOST: usize = 65536;
 
 // How many bytes an operand can have: one of a routine on lent buffers, and one of a key message.
 const ROOM: usize = 8192;
@@ -68,16 +68,15 @@ struct Vector<'a> {
 
 impl<'a> Vector<'a> {
     fn text(self, n: usize) -> &'a [u8] {
-        self.operands.split(|c| *c == b'/').nth(n).unwrap_or(&[])
+        let left = (0..n).fold(self.operands, |left, _| text::after(left, b'/'));
+        text::before(left, b'/')
     }
 
-    // The bytes of an operand, as far as there is room for them.
-    fn buffer<const N: usize>(self, n: usize) -> ArrayVec<u8, N> {
-        let mut bytes = [0u8; N];
-        let digits = text::from_hex(self.text(n), &mut bytes);
-        let mut buffer = ArrayVec::from(bytes);
-        buffer.truncate(digits / 2);
-        buffer
+    // The bytes of an operand, as far as there is room for them: the front of the room that is lent.
+    fn bytes(self, n: usize, room: &mut [u8]) -> &mut [u8] {
+        let digits = text::from_hex(self.text(n), room);
+        let end = text::front_size(room, digits as u64 / 2);
+        &mut room[..end]
     }
 
     // An operand that has 16 bytes, no more and no fewer.
@@ -89,17 +88,14 @@ impl<'a> Vector<'a> {
 
     // A number of up to 8 bytes, the most significant first.
     fn number(self, n: usize) -> u64 {
-        self.buffer::<8>(n)
+        self.bytes(n, &mut [0u8; 8])
             .iter()
             .fold(0, |value, byte| value << 8 ^ *byte as u64)
     }
 
-    // The block that is operand 2, as many times as operand 3 says.
-    fn repeated(self) -> Option<ArrayVec<u8, REPEATED>> {
-        let block = self.block(2)?;
-        let mut text = ArrayVec::from(array::from_fn(|i| block[i % 16]));
-        text.truncate(16 * self.number(3).min(4100) as usize);
-        Some(text)
+    // How many bytes a block has that is repeated as often as operand 3 says.
+    fn size(self) -> u64 {
+        16 * self.number(3).min(4100)
     }
 
     fn byte(self, n: usize) -> u8 {
@@ -189,6 +185,11 @@ impl Vector<'_> {
 
 // ---- the routines on lent buffers
 
+// A text of one block again and again, as many as there is room for.
+fn repeated(block: [u8; 16]) -> [u8; REPEATED] {
+    array::from_fn(|i| block[i % 16])
+}
+
 impl Vector<'_> {
     fn of_three_buffers<F: Fn(&[u8], &[u8], &mut [u8]) -> Result<(), Refusal>>(
         self,
@@ -196,11 +197,10 @@ impl Vector<'_> {
     ) -> io::Result<()>
         requires { F.IsAlwaysCallable routine }
     {
-        let a = self.buffer::<ROOM>(0);
-        let b = self.buffer::<ROOM>(1);
-        let mut output = self.buffer::<ROOM>(2);
-        let answer = routine(&a, &b, &mut output);
-        self.write_outcome(answer, &output)
+        let (mut a, mut b, mut c) = ([0u8; ROOM], [0u8; ROOM], [0u8; ROOM]);
+        let output = self.bytes(2, &mut c);
+        let answer = routine(self.bytes(0, &mut a), self.bytes(1, &mut b), output);
+        self.write_outcome(answer, output)
     }
 
     fn cbc<F: Fn(&[u8], &[u8], &[u8], &mut [u8]) -> Result<(), Refusal>>(
@@ -209,42 +209,47 @@ impl Vector<'_> {
     ) -> io::Result<()>
         requires { F.IsAlwaysCallable routine }
     {
-        let key = self.buffer::<ROOM>(0);
-        let iv = self.buffer::<ROOM>(1);
-        let input = self.buffer::<ROOM>(2);
-        let mut output = self.buffer::<ROOM>(3);
-        let answer = routine(&key, &iv, &input, &mut output);
-        self.write_outcome(answer, &output)
+        let (mut a, mut b, mut c, mut d) = ([0u8; ROOM], [0u8; ROOM], [0u8; ROOM], [0u8; ROOM]);
+        let key = self.bytes(0, &mut a);
+        let iv = self.bytes(1, &mut b);
+        let input = self.bytes(2, &mut c);
+        let output = self.bytes(3, &mut d);
+        let answer = routine(key, iv, input, output);
+        self.write_outcome(answer, output)
     }
 
     fn cbc_repeated(self) -> io::Result<()> {
-        let (Some(input), Some(mut output)) = (self.repeated(), self.repeated()) else {
+        let Some(block) = self.block(2) else {
             return self.no_such_vector();
         };
-        let key = self.buffer::<ROOM>(0);
-        let iv = self.buffer::<ROOM>(1);
-        let answer = modes::cbc_encrypt(&key, &iv, &input, &mut output);
-        self.write_outcome(answer, text::last(&output, 16))
+        let (mut a, mut b) = ([0u8; ROOM], [0u8; ROOM]);
+        let key = self.bytes(0, &mut a);
+        let iv = self.bytes(1, &mut b);
+        let input = repeated(block);
+        let mut room = repeated(block);
+        let end = text::front_size(&room, self.size());
+        let output = &mut room[..end];
+        let answer = modes::cbc_encrypt(key, iv, &input[..end], output);
+        self.write_outcome(answer, text::last(output, 16))
     }
 
     // The key and the output are operands 0 and `last`, the message is lent.
     fn mac(self, last: usize, message: &[u8]) -> io::Result<()> {
-        let key = self.buffer::<ROOM>(0);
-        let mut output = self.buffer::<ROOM>(last);
-        let answer = modes::cmac(&key, self.number(1), message, &mut output);
-        self.write_outcome(answer, &output)
+        let (mut a, mut b) = ([0u8; ROOM], [0u8; ROOM]);
+        let output = self.bytes(last, &mut b);
+        let answer = modes::cmac(self.bytes(0, &mut a), self.number(1), message, output);
+        self.write_outcome(answer, output)
     }
 
     fn cmac(self) -> io::Result<()> {
-        let message = self.buffer::<ROOM>(2);
-        self.mac(3, &message)
+        self.mac(3, self.bytes(2, &mut [0u8; ROOM]))
     }
 
     fn cmac_repeated(self) -> io::Result<()> {
-        let Some(message) = self.repeated() else {
+        let Some(block) = self.block(2) else {
             return self.no_such_vector();
         };
-        self.mac(4, &message)
+        self.mac(4, text::front(&repeated(block), self.size()))
     }
 }
 
@@ -289,55 +294,54 @@ impl Vector<'_> {
     ) -> io::Result<()>
         requires { F.IsAlwaysCallable writer }
     {
-        let uid = self.buffer::<MESSAGE_ROOM>(0);
-        let authkey = self.buffer::<MESSAGE_ROOM>(3);
-        let key = self.buffer::<MESSAGE_ROOM>(6);
-        let mut m1 = self.buffer::<MESSAGE_ROOM>(7);
-        let mut m2 = self.buffer::<MESSAGE_ROOM>(8);
-        let mut m3 = self.buffer::<MESSAGE_ROOM>(9);
+        let [mut u, mut a, mut k, mut first, mut second, mut third] = [[0u8; MESSAGE_ROOM]; 6];
+        let m1 = self.bytes(7, &mut first);
+        let m2 = self.bytes(8, &mut second);
+        let m3 = self.bytes(9, &mut third);
         let update = Update {
-            uid: &uid,
+            uid: self.bytes(0, &mut u),
             target: self.byte(1),
             authority: self.byte(2),
-            authkey: &authkey,
+            authkey: self.bytes(3, &mut a),
             counter: self.word(4),
             flags: self.byte(5),
-            key: &key,
+            key: self.bytes(6, &mut k),
         };
-        let answer = writer(&update, &mut m1, &mut m2, &mut m3);
-        self.write_outcome(answer, &m1)?;
-        self.write_bytes(&m2)?;
-        self.write_bytes(&m3)
+        let answer = writer(&update, m1, m2, m3);
+        self.write_outcome(answer, m1)?;
+        self.write_bytes(m2)?;
+        self.write_bytes(m3)
     }
 
     fn proof(self) -> io::Result<()> {
-        let uid = self.buffer::<MESSAGE_ROOM>(0);
-        let key = self.buffer::<MESSAGE_ROOM>(4);
-        let mut m4 = self.buffer::<MESSAGE_ROOM>(5);
-        let mut m5 = self.buffer::<MESSAGE_ROOM>(6);
+        let [mut u, mut k, mut fourth, mut fifth] = [[0u8; MESSAGE_ROOM]; 4];
+        let m4 = self.bytes(5, &mut fourth);
+        let m5 = self.bytes(6, &mut fifth);
         let answer = message::write_proof(
-            &uid,
+            self.bytes(0, &mut u),
             self.byte(1),
             self.byte(2),
             self.word(3),
-            &key,
-            &mut m4,
-            &mut m5,
+            self.bytes(4, &mut k),
+            m4,
+            m5,
         );
-        self.write_outcome(answer, &m4)?;
-        self.write_bytes(&m5)
+        self.write_outcome(answer, m4)?;
+        self.write_bytes(m5)
     }
 
     fn open(self) -> io::Result<()> {
-        let authkey = self.buffer::<MESSAGE_ROOM>(0);
-        let m1 = self.buffer::<MESSAGE_ROOM>(1);
-        let m2 = self.buffer::<MESSAGE_ROOM>(2);
-        let m3 = self.buffer::<MESSAGE_ROOM>(3);
-        let opened = message::open(&authkey, &m1, &m2, &m3);
+        let [mut a, mut first, mut second, mut third] = [[0u8; MESSAGE_ROOM]; 4];
+        let opened = message::open(
+            self.bytes(0, &mut a),
+            self.bytes(1, &mut first),
+            self.bytes(2, &mut second),
+            self.bytes(3, &mut third),
+        );
         self.write_bytes(&[opened.is_some() as u8])?;
         // What M3 does not vouch for is written as zeros.
         let contents = opened.unwrap_or_default();
-        self.write_bytes(&contents.counter.to_be_bytes())?;
+        self.write_bytes(&text::bytes_of(contents.counter))?;
         self.write_bytes(&[contents.flags, contents.zerofill as u8])?;
         self.write_bytes(&contents.key)
     }
@@ -407,7 +411,7 @@ fn run(out: Stdout, lines: &[u8]) -> io::Result<()> {
 }
 
 fn main(rt: HostRuntime) -> io::Result<()> {
-    let mut input = Vec::new(rt.alloc());
-    rt.stdin().take(MOST).read_to_end(&mut input)?;
+    let mut input = ArrayVec::<u8, MOST>::new();
+    io::copy(&mut rt.stdin().take(MOST as u64), &mut input)?;
     run(rt.stdout(), &input)
 }
