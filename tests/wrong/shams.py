@@ -29,10 +29,13 @@ FACT = re.compile(r"(?:\./)?proofs/(?!\S*Invariants\.antt)\S+ error: `[^`]+`: "
                   r"|fn \S+: no proof: expected answers in \S+; `search` did not prove `")
 # nor for a name, or a step of the walk or a part of a proof, that is not there.
 BY_NAME = re.compile(r"is not in scope|can be named from here|has no field|has no `|already a name|is applied to an argument")
-# And some of it only says that something that it needs was refused before: so a function of which no goal is named, where a lemma that
-# its attribute names was.
-FOLLOWS = re.compile(r"was (?:not admitted|rejected)|which (?:is|are) not proved|no proof: expected answers in \S+$"
+# And some of it only says that something that it needs was refused before:
+FOLLOWS = re.compile(r"was (?:not admitted|rejected)|which (?:is|are) not proved"
                      r"|the borrow checker's part in its proof is not made yet: a call of")
+# so a function too of which no goal is named, but only where the file of a lemma that its attribute names was refused.
+NO_GOAL = re.compile(r"fn (?:\w+::)+(\w+): no proof: expected answers in \S+$")
+REFUSED_LEMMAS = re.compile(r"^(?:\./)?proofs/([A-Z]\w*)\.antt\S* error: `", re.M)
+ATTRIBUTE = re.compile(r"#\[tactic\((.*)\)\]\n(?: *#\[.*\]\n)* *(?:pub )?(?:extern \"C\" )?fn (\w+)")
 
 
 def run(folder, *words):
@@ -65,10 +68,20 @@ def is_for_a_fact(objection):
     return bool(FACT.match(objection)) and not BY_NAME.search(objection)
 
 
-def objections(said):
+def only_follows(line, said, crate):
+    """whether an objection only says that something that a function needs was refused before"""
+    unproved = NO_GOAL.match(line)
+    if not unproved:
+        return bool(FOLLOWS.search(line))
+    source = "".join(file.read_text() for file in (ROOT / "crates" / crate / "src").glob("**/*.rt"))
+    named = [attribute for attribute, name in ATTRIBUTE.findall(source) if name == unproved[1]]
+    return any(f"::proofs::{file}::" in attribute for file in REFUSED_LEMMAS.findall(said) for attribute in named)
+
+
+def objections(said, crate):
     """what the prover does not accept, without what only follows from that: first what is for no fact, then what is left at the end
     of a function"""
-    found = [line for line in said.splitlines() if OBJECTION.match(line) and not FOLLOWS.search(line)]
+    found = [line for line in said.splitlines() if OBJECTION.match(line) and not only_follows(line, said, crate)]
     return sorted(found, key=lambda line: (is_for_a_fact(line), not re.search(r"(?:error:|did not prove) `returns", line)))
 
 
@@ -79,7 +92,7 @@ def trouble(edit, is_twin, prover):
         return "" if prover.returncode == 0 and said == "logic=proved" else "NOT ACCEPTED"
     if prover.returncode != 1 or said == "logic=proved":
         return f"NOT REFUSED, status {prover.returncode}"
-    found = objections(prover.stdout)
+    found = objections(prover.stdout, edit.crate)
     if not found or said != "logic=not-proved" or not all(map(is_for_a_fact, found)):
         return "REFUSED FOR A NAME"
     unproved = [name for name in edit.helpers() if f"fn {edit.crate}::{name}: proved" not in prover.stdout]
@@ -95,7 +108,7 @@ def tried(copy, edit, is_twin):
     prover = run(folder, "rt", "check")
     restore(copy, edit.crate)
     fault = trouble(edit, is_twin, prover)
-    said = "".join(objections(prover.stdout)[:1])[:240]
+    said = "".join(objections(prover.stdout, edit.crate)[:1])[:240]
     came_out = fault or ("accepted" if is_twin else "refused")
     took = f"{time.time() - began:.0f} s"
     print(f"{edit}{', twin' * is_twin}: {came_out} ({took}) {said}".rstrip(), flush=True)
